@@ -2,3 +2,4 @@ pub mod Codes
 pub mod Numbers
 pub mod Units
 pub mod Signs
+pub mod Texts

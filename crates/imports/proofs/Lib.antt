@@ -1,0 +1,5 @@
+pub mod Cuts
+pub mod FirstRow
+pub mod Ladders
+pub mod Parts
+pub mod Rows
