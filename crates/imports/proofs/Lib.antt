@@ -1,5 +1,7 @@
+pub mod Admitted
 pub mod Cuts
 pub mod FirstRow
 pub mod Ladders
 pub mod Parts
 pub mod Rows
+pub mod Writing

@@ -40,3 +40,10 @@ places-yen s e = ap (λ b. cond b 0 2) (sym (sameBytes-decides s (codes "JPY") .
 pub places-other : (s : List ℕ) → (s ≡ codes "JPY" → ⊥) → 2 ≡ places s
 places-other s n =
     ⊎-elim (λ t. absurd (n (sameBytes-decides s (codes "JPY") .0 t))) (λ f. ap (λ b. cond b 0 2) (sym f)) (cases-bool (sameBytes s (codes "JPY")))
+
+pub places-small : (s : List ℕ) → places s ≤ 2
+places-small s = at (sameBytes s (codes "JPY"))
+  where
+    at : (b : Bool) → cond b 0 2 ≤ 2
+    at true = omega arith
+    at false = omega arith
