@@ -4,4 +4,5 @@ pub mod FirstRow
 pub mod Ladders
 pub mod Parts
 pub mod Rows
+pub mod Sofar
 pub mod Writing

@@ -1,5 +1,7 @@
+pub mod Checks
 pub mod Faults
 pub mod Lines
 pub mod Numbers
 pub mod Reading
 pub mod Texts
+pub mod Totals

@@ -57,12 +57,14 @@ Reads-first-row text r =
     (λ bytes. Lacks 10 (bytes .now) × (length (bytes .now) ≤ most-in-line) × (text ≡ (bytes .now ++ 10 ∷ []) ++ drop (length (bytes .now) + 1) text))
     (λ fault. (fault ≡ End) × ((here : Row) × (after : List Row) × (rows text ≡ here ∷ after) × Bad-end here))
 
+-- The text begins with the line of this posting, which has n bytes.
+abbrev pub Begins : ℕ → List ℕ → Posting → ℕ → Type 0
+Begins k text p n = In-range k p × (n ≡ length (line k p)) × (text ≡ line k p ++ drop n text)
+
 -- The posting whose line the text begins with, and how many bytes that line has, or the first fault of the text's first line.
 abbrev pub Reads-line : ℕ → List ℕ → Result (Posting × ℕ) LineFault → Type 0
 Reads-line k text r =
-    results.Cases r
-    (λ told. In-range k (told .0) × (told .1 ≡ length (line k (told .0))) × (text ≡ line k (told .0) ++ drop (told .1) text))
-    (First-row-fault (row-faults k) text)
+    results.Cases r (λ told. Begins k text (told .0) (told .1)) (First-row-fault (row-faults k) text)
 
 -- The code that a header without its end names, or the header's fault.
 abbrev pub Reads-heading : List ℕ → Result Code LineFault → Type 0

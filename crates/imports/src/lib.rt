@@ -1,13 +1,31 @@
 // Import text: the check that admits it or names a faulty line, and the postings that an admitted text stands for.
+mod checked;
+mod checking;
 mod fault;
 mod line;
 mod posting;
 mod read;
+mod survey;
+mod totals;
 
+pub use checked::Checked;
+pub use checking::check;
 pub use fault::FaultyLine;
-pub use fault::ImportFaultFromLine;
+pub use fault::FaultyLineDebug;
+pub use fault::FaultyLinePartialEq;
 pub use fault::ImportFault;
+pub use fault::ImportFaultDebug;
+pub use fault::ImportFaultFromLine;
+pub use fault::ImportFaultPartialEq;
 pub use fault::LineFault;
+pub use fault::LineFaultDebug;
 pub use fault::LineFaultFromAmount;
+pub use fault::LineFaultPartialEq;
 pub use line::Line;
 pub use posting::Posting;
+pub use posting::PostingDebug;
+pub use posting::PostingEq;
+pub use posting::PostingPartialEq;
+pub use totals::Totals;
+pub use totals::TotalsDebug;
+pub use totals::TotalsPartialEq;
