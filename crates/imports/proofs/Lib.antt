@@ -1,4 +1,5 @@
 pub mod Admitted
+pub mod Taking
 pub mod Cuts
 pub mod FirstRow
 pub mod Ladders

@@ -113,7 +113,7 @@ module _ (k : ℕ) where
       let amount : amount-text k a ≡ amount-text k b = cc in
       λ i. Transfer (same-cell c d (g .0) (h .0) cell i) (same-cell o n (g .1) (h .1) other i) (amount-same k a b (g .3 .0) (h .3 .0) amount i)
 
-  same-row : (p q : Posting) → In-range k p → In-range k q → row k p ≡ row k q → p ≡ q
+  pub same-row : (p q : Posting) → In-range k p → In-range k q → row k p ≡ row k q → p ≡ q
   same-row p q g h e =
       same-posting p q g h (same-fields (fields k p) (fields k q) (whole-fields p g) (whole-fields q h) (sym (row-parted k p) ∙ e ∙ row-parted k q))
 

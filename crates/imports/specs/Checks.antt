@@ -13,9 +13,13 @@ use Rattle.imports.specs.Faults.{Refused}
 use Rattle.imports.specs.Texts.{Stands}
 use Rattle.imports.specs.Totals.{Totals-of}
 
--- The text is the writing of some postings in the import's currency, and the import holds it.
+-- The import holds a text that stands for these postings in its currency.
+abbrev pub Tells : Checked → List Posting → Type 0
+Tells import ps = Stands (vec-items (import .text)) (import .code .letters) ps
+
+-- The import holds this text, which stands for some postings.
 abbrev pub Admits : List ℕ → Checked → Type 0
-Admits text import = (vec-items (import .text) ≡ text) × ((ps : List Posting) × Stands text (import .code .letters) ps)
+Admits text import = (vec-items (import .text) ≡ text) × ((ps : List Posting) × Tells import ps)
 
 -- The text is the writing of no postings in any currency, and this is its fault.
 abbrev pub Refuses : List ℕ → ImportFault → Type 0

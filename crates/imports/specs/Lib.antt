@@ -1,4 +1,5 @@
 pub mod Checks
+pub mod Cursors
 pub mod Faults
 pub mod Lines
 pub mod Numbers

@@ -1,15 +1,18 @@
 // Import text: the check that admits it or names a faulty line, and the postings that an admitted text stands for.
 mod checked;
 mod checking;
+mod cursor;
 mod fault;
 mod line;
 mod posting;
+mod postings;
 mod read;
 mod survey;
 mod totals;
 
 pub use checked::Checked;
 pub use checking::check;
+pub use cursor::Postings;
 pub use fault::FaultyLine;
 pub use fault::FaultyLineDebug;
 pub use fault::FaultyLinePartialEq;
@@ -26,6 +29,7 @@ pub use posting::Posting;
 pub use posting::PostingDebug;
 pub use posting::PostingEq;
 pub use posting::PostingPartialEq;
+pub use postings::PostingsIterator;
 pub use totals::Totals;
 pub use totals::TotalsDebug;
 pub use totals::TotalsPartialEq;
