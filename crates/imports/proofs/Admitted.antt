@@ -33,7 +33,7 @@ module _ (code : List ℕ) (is : Is-code code) where
   good-header : (fault : LineFault) → First (line-faults code-faults (ended (header code))) fault → ⊥
   good-header fault =
       ⊎-elim (λ bad. good-end (header code) (omega (arith, is .0)) (bad .0)) (λ rest.
-        ⊎-elim (λ none. none .0 (heading code, lacks-code 9 (omega arith), refl, is)) (λ no. no .1) (rest .1))
+      ⊎-elim (λ none. none .0 (heading code, lacks-code 9 (omega arith), refl, is)) (λ no. no .1) (rest .1))
 
   -- the lines of a text that begins with these postings
   pub rows-text : (ps : List Posting) (rest : List ℕ) → All (In-range (places code)) ps → rows (written code ps ++ rest) ≡ ended (header code) ∷ (map (posting-row (places code)) ps ++ rows rest)

@@ -60,9 +60,19 @@ module _ (k : ℕ) (bytes : List ℕ) (f : Fields) (whole : Whole f) (is : bytes
         amount-fault Form bad =
             inr (lettered, inr (hasnt Bad-cell cells, inr (hasnt One-cell two, inl (has (Amount-field (Malformed k)) bad, refl))))
         amount-fault Limit bad =
-            inr (lettered, inr (hasnt Bad-cell cells, inr (hasnt One-cell two, inr (
-              hasnt (Amount-field (Malformed k)) (not-amount f (λ field b m. m (b .0) (b .1)) bad),
-              inl (has (Amount-field (Beyond k)) bad, refl)))))
+            inr (
+              lettered,
+              inr (
+                hasnt Bad-cell cells,
+                inr (
+                  hasnt One-cell two,
+                  inr (
+                    hasnt (Amount-field (Malformed k)) (not-amount f (λ field b m. m (b .0) (b .1)) bad),
+                    inl (has (Amount-field (Beyond k)) bad, refl),
+                  ),
+                ),
+              ),
+            )
 
         -- a line with nothing wrong has no first fault
         pub no-fault : Amount-field (Sound-amount k) f → (fault : LineFault) → First (row-faults k bytes) fault → ⊥

@@ -62,7 +62,6 @@ module _ (text code : List ℕ) where
   }
 
   module _ (at used : ℕ) (t u : Totals) (p : Posting) (old : Sofar text code at t) (range : In-range (places code) p) (long : used ≡ length (line (places code) p)) (cut : drop at text ≡ line (places code) p ++ drop used (drop at text)) (adds : Adds t p u) where
-
     pub one-more : Sofar text code (at + used) u
     one-more = record {
       ps = old .ps ++ p ∷ [];

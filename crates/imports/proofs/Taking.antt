@@ -56,12 +56,14 @@ module _ (k : ℕ) (text : List ℕ) (at : ℕ) where
       let lines = sym (rows-front p rest (b .0)) ∙ ap rows both ∙ rows-front q (joined (line k) qs) (h .ranges .0) in
       let same-line : posting-row k p ≡ posting-row k q = cc in
       let same = same-row k p q (b .0) (h .ranges .0) (ap (λ (r : Row). r .bytes) same-line) in
-      let after : rest ≡ joined (line k) qs = append-cancel-left (line k p) rest (joined (line k) qs) (both ∙ ap (λ x. line k x ++ joined (line k) qs) (sym same)) in
-      (ap {B = Option Posting} Some same, record {
-        within = begins-within k text at used p (h .within) b;
-        ranges = h .ranges .1;
-        writing = sym (drop-drop used at text) ∙ after;
-      })
+      let after : rest ≡ joined (line k) qs = append-cancel-left (line k p) rest (joined (line k) qs) (both ∙ ap (λ x. line k x ++ joined (line k) qs) (sym same)) in (
+        ap {B = Option Posting} Some same,
+        record {
+          within = begins-within k text at used p (h .within) b;
+          ranges = h .ranges .1;
+          writing = sym (drop-drop used at text) ∙ after;
+        },
+      )
 
 -- behind the header stand the lines of the postings
 pub ahead : (text code : List ℕ) (ps : List Posting) → Stands text code ps → Left (places code) text 6 ps

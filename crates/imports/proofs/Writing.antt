@@ -54,25 +54,38 @@ module _ (k : ℕ) where
   )
 
   lacks-row : (p : Posting) → In-range k p → Lacks 10 (row k p)
-  lacks-row (Post c a) h =
-      (omega arith, (omega arith,
-        all-append (λ x. x ≡ 10 → ⊥) (decimal c) (9 ∷ amount-text k a) (lacks-cell 10 c (omega arith) (h .0))
-        (omega arith, lacks-amount 10 k a (omega arith) (h .1))))
-  lacks-row (Transfer c o a) h =
-      (omega arith, (omega arith,
-        all-append (λ x. x ≡ 10 → ⊥) (decimal c) (9 ∷ (decimal o ++ 9 ∷ amount-text k a)) (lacks-cell 10 c (omega arith) (h .0))
-        (omega arith,
-          all-append (λ x. x ≡ 10 → ⊥) (decimal o) (9 ∷ amount-text k a) (lacks-cell 10 o (omega arith) (h .1))
-          (omega arith, lacks-amount 10 k a (omega arith) (h .3)))))
+  lacks-row (Post c a) h = (
+    omega arith,
+    (
+      omega arith,
+      all-append (λ x. x ≡ 10 → ⊥) (decimal c) (9 ∷ amount-text k a) (lacks-cell 10 c (omega arith) (h .0))
+          (omega arith, lacks-amount 10 k a (omega arith) (h .1)),
+    ),
+  )
+  lacks-row (Transfer c o a) h = (
+    omega arith,
+    (
+      omega arith,
+      all-append (λ x. x ≡ 10 → ⊥) (decimal c) (9 ∷ (decimal o ++ 9 ∷ amount-text k a)) (lacks-cell 10 c (omega arith) (h .0)) (
+        omega arith,
+        all-append (λ x. x ≡ 10 → ⊥) (decimal o) (9 ∷ amount-text k a) (lacks-cell 10 o (omega arith) (h .1))
+            (omega arith, lacks-amount 10 k a (omega arith) (h .3)),
+      ),
+    ),
+  )
 
   short-row : (p : Posting) → k ≤ 2 → In-range k p → length (row k p) ≤ most-in-line
   short-row (Post c a) few h =
       omega (arith, length-append (decimal c) (9 ∷ amount-text k a), short-cell c (h .0), amount-short k a (h .1 .0))
   short-row (Transfer c o a) few h =
-      omega (arith,
+      omega (
+        arith,
         length-append (decimal c) (9 ∷ (decimal o ++ 9 ∷ amount-text k a)),
         length-append (decimal o) (9 ∷ amount-text k a),
-        short-cell c (h .0), short-cell o (h .1), amount-short k a (h .3 .0))
+        short-cell c (h .0),
+        short-cell o (h .1),
+        amount-short k a (h .3 .0),
+      )
 
   posting-fields : (p : Posting) → Is-posting (fields k p)
   posting-fields (Post c a) = tt
@@ -94,7 +107,7 @@ module _ (k : ℕ) where
   pub good-row : (p : Posting) → k ≤ 2 → In-range k p → (fault : LineFault) → First (line-faults (row-faults k) (ended (row k p))) fault → ⊥
   good-row p few h fault =
       ⊎-elim (λ bad. good-end (row k p) (short-row p few h) (bad .0)) (λ rest.
-        no-fault k (row k p) (fields k p) (whole-fields p h) (row-parted k p) (posting-fields p) (good-cells p h) (two-cells p h) (sound-amount p h) fault (rest .1))
+      no-fault k (row k p) (fields k p) (whole-fields p h) (row-parted k p) (posting-fields p) (good-cells p h) (two-cells p h) (sound-amount p h) fault (rest .1))
 
   -- two postings in range have two lines
   same-cell : (c d : ℕ) → c ≤ 4095 → d ≤ 4095 → decimal c ≡ decimal d → c ≡ d

@@ -19,6 +19,7 @@ use super::survey::Survey;
 use super::totals::Totals;
 
 const MOST_BYTES: usize = 32768;
+
 const HEADER_BYTES: usize = 6;
 
 pub fn check(text: Vec<u8>) -> Result<Checked, ImportFault>
@@ -38,7 +39,11 @@ fn survey(text: &[u8]) -> Result<Survey, ImportFault>
         return Err(ImportFault::Size);
     }
     let code = at_line(1, read_header(text))?;
-    let mut totals = Totals { count: 0, reach: 0, length: 0 };
+    let mut totals = Totals {
+        count: 0,
+        reach: 0,
+        length: 0,
+    };
     let mut at = HEADER_BYTES;
     while at < len {
         let (posting, used) = at_line(totals.count + 2, read_line(code, &text[at..len]))?;

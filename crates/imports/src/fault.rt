@@ -41,8 +41,8 @@ impl LineFault {
 pub impl From<AmountFault> for LineFault as LineFaultFromAmount {
     ghost converts = { λ fault line. line ≡ LineFault.Amount fault };
 
-    fn from(fault: AmountFault) -> LineFault {
-        LineFault::Amount(fault)
+    fn from(amount: AmountFault) -> LineFault {
+        LineFault::Amount(amount)
     }
 }
 
@@ -84,7 +84,7 @@ impl ImportFault {
 pub impl From<FaultyLine> for ImportFault as ImportFaultFromLine {
     ghost converts = { λ faulty import. import ≡ ImportFault.Line faulty };
 
-    fn from(faulty: FaultyLine) -> ImportFault {
-        ImportFault::Line(faulty)
+    fn from(named: FaultyLine) -> ImportFault {
+        ImportFault::Line(named)
     }
 }

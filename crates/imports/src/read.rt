@@ -13,6 +13,7 @@ use money::read_amount;
 use money::read_number;
 
 const TOP_CELL: u64 = 4095;
+
 const MOST_IN_LINE: usize = 80;
 
 // The code of the header that the text begins with.
@@ -78,7 +79,11 @@ fn read_row(code: Code, row: &[u8]) -> Result<Posting, LineFault>
             let amount = read_amount(code, amount)?;
             Ok(Posting::Post { cell, amount })
         }
-        Line::Transfer { cell, other, amount } => {
+        Line::Transfer {
+            cell,
+            other,
+            amount,
+        } => {
             let from = read_cell(cell)?;
             let to = read_cell(other)?;
             if from == to {
@@ -112,7 +117,11 @@ fn read_fields(row: &[u8]) -> Option<Line<'_>>
             let (cell, rest) = cut(fields, b'\t')?;
             let (other, rest) = cut(rest, b'\t')?;
             let amount = last_field(rest)?;
-            Some(Line::Transfer { cell, other, amount })
+            Some(Line::Transfer {
+                cell,
+                other,
+                amount,
+            })
         }
         _ => None,
     }

@@ -56,9 +56,10 @@ module _ (k : ℕ) (s : List ℕ) where
 
   pub minus-some : 0 < length s → getD s 0 0 ≡ 45 → (n : ℕ) → 0 < n → n / 10 ^ k < bound → drop 1 s ≡ units-text k n → Writes k s (negsuc (n - 1))
   minus-some long first n some small e =
-      let back : suc (n - 1) ≡ n = omega arith in
-      (subst (λ m. m / 10 ^ k < bound) (sym back) small,
-       front s long first ∙ ap (λ l. 45 ∷ l) (e ∙ ap (units-text k) (sym back)))
+      let back : suc (n - 1) ≡ n = omega arith in (
+        subst (λ m. m / 10 ^ k < bound) (sym back) small,
+        front s long first ∙ ap (λ l. 45 ∷ l) (e ∙ ap (units-text k) (sym back)),
+      )
     where
       front : (l : List ℕ) → 0 < length l → getD l 0 0 ≡ 45 → l ≡ 45 ∷ drop 1 l
       front [] h e = absurd (omega arith)

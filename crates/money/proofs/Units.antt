@@ -110,9 +110,6 @@ module _ (k : ℕ) (pos : 0 < k) (p w : ℕ) (s : List ℕ) (at : length s ≡ p
   unfolding part
   part-small = subst (λ l. value 10 part < 10 ^ l) long (value-lt 10 part digits)
 
-
-
-
   pub units-whole : (w * 10 ^ k + value 10 (drop (p + 1) s)) / 10 ^ k ≡ w
   units-whole = digits-div w part-small
 
@@ -145,7 +142,7 @@ units-same (suc k) n m p q e =
     let at = length (decimal (n / 10 ^ suc k)) in
     let long = units-length (suc k) n pos in
     let whole : n / 10 ^ suc k ≡ m / 10 ^ suc k =
-        same-from-decimal _ _ (omega arith) (omega arith) (sym (whole-there (suc k) n pos at s refl long) ∙ whole-there (suc k) m pos at s e long) in
+    same-from-decimal _ _ (omega arith) (omega arith) (sym (whole-there (suc k) n pos at s refl long) ∙ whole-there (suc k) m pos at s e long) in
     let part = ap (value 10) (sym (part-there (suc k) n pos at s refl long) ∙ part-there (suc k) m pos at s e long) in
     let power = ap (λ x. x * 10 ^ suc k) whole in
     omega (arith, part, power, value-padded (suc k) n, value-padded (suc k) m)

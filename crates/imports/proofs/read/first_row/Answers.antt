@@ -12,9 +12,10 @@ returns-in-rest c =
 
 pub returns-then-row-gt-MOST-IN-LINE : need.returns-then-row-gt-MOST-IN-LINE
 returns-then-row-gt-MOST-IN-LINE c =
-    let cut = c .in-Some .ensures tt in
-    (refl,
-     (ended (c .in-Some .row .now), rows (c .in-Some .field-0-1 .now), first-row-is _ _ _ (cut .0) (cut .1), inr (c .if-row-gt-MOST-IN-LINE .taken)))
+    let cut = c .in-Some .ensures tt in (
+      refl,
+      (ended (c .in-Some .row .now), rows (c .in-Some .field-0-1 .now), first-row-is _ _ _ (cut .0) (cut .1), inr (c .if-row-gt-MOST-IN-LINE .taken)),
+    )
 
 pub returns : need.returns
 returns c =

@@ -22,6 +22,6 @@ returns c =
     let text = c .args .text .now in
     cases-weaker (c .read-heading .result) (c .read-heading .ensures)
     (λ code h.
-      let long : length bytes + 1 ≡ 6 = omega (arith, ap length (h .1), h .0 .0) in
-      (h .0, row .2 ∙ (λ i. (h .1 i ++ 10 ∷ []) ++ drop (long i) text)))
+    let long : length bytes + 1 ≡ 6 = omega (arith, ap length (h .1), h .0 .0) in
+    (h .0, row .2 ∙ (λ i. (h .1 i ++ 10 ∷ []) ++ drop (long i) text)))
     (λ fault first. said-fault code-faults text bytes fault (row .0) (row .1) (row .2) first)

@@ -21,13 +21,14 @@ returns-in-Break-posting c =
     let row = c .in-Continue-row .ensures tt in
     rw (p .1, p .2)
     (said-fault (row-faults (places (c .args .code .letters))) (c .args .text .now) (c .in-Continue-row .row .now) (c .in-Break-posting .field-0 .0)
-      (row .0) (row .1) (row .2) (c .in-Break-posting .ensures tt))
+    (row .0) (row .1) (row .2) (c .in-Break-posting .ensures tt))
 
 pub returns : need.returns
 returns c =
     let row = c .in-Continue-row .ensures tt in
     let told = c .in-Continue-posting .ensures tt in
-    let bytes = c .in-Continue-row .row .now in
-    (told .0,
-     sym (length-push bytes 10) ∙ ap (λ s. length (s ++ 10 ∷ [])) (told .1),
-     row .2 ∙ ap (λ s. (s ++ 10 ∷ []) ++ drop (length bytes + 1) (c .args .text .now)) (told .1))
+    let bytes = c .in-Continue-row .row .now in (
+      told .0,
+      sym (length-push bytes 10) ∙ ap (λ s. length (s ++ 10 ∷ [])) (told .1),
+      row .2 ∙ ap (λ s. (s ++ 10 ∷ []) ++ drop (length bytes + 1) (c .args .text .now)) (told .1),
+    )

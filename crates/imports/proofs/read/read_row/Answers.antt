@@ -18,7 +18,7 @@ returns-in-Break-amount c =
     let cell = c .in-Continue-cell .ensures tt in
     rw (p .1, p .2)
     (amount-fault (places (c .args .code .letters)) (c .args .row .now) (post (c .in-Post .cell .now) (c .in-Post .amount .now)) (fields .0) (fields .1) tt
-      (λ bad. bad _ (cell .0) (cell .1)) (λ one. one) (c .in-Break-amount .field-0 .0) (c .in-Break-amount .ensures tt))
+    (λ bad. bad _ (cell .0) (cell .1)) (λ one. one) (c .in-Break-amount .field-0 .0) (c .in-Break-amount .ensures tt))
 
 pub returns-then-from-to : need.returns-then-from-to
 returns-then-from-to c =
@@ -37,6 +37,6 @@ returns-in-Break-amount-2 c =
     let to = c .in-Continue-to .ensures tt in
     rw (p .1, p .2)
     (amount-fault (places (c .args .code .letters)) (c .args .row .now) (transfer (c .in-Transfer .cell .now) (c .in-Transfer .other .now) (c .in-Transfer .amount .now)) (fields .0) (fields .1) tt
-      (⊎-elim (λ bad. bad _ (from .0) (from .1)) (λ bad. bad _ (to .0) (to .1)))
-      (λ one. c .if-from-to .left (same-from-decimal _ _ (omega (arith, from .0)) (omega (arith, to .0)) (sym (from .1) ∙ one ∙ to .1)))
-      (c .in-Break-amount-2 .field-0 .0) (c .in-Break-amount-2 .ensures tt))
+    (⊎-elim (λ bad. bad _ (from .0) (from .1)) (λ bad. bad _ (to .0) (to .1)))
+    (λ one. c .if-from-to .left (same-from-decimal _ _ (omega (arith, from .0)) (omega (arith, to .0)) (sym (from .1) ∙ one ∙ to .1)))
+    (c .in-Break-amount-2 .field-0 .0) (c .in-Break-amount-2 .ensures tt))
