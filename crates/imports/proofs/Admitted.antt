@@ -16,7 +16,8 @@ use Rattle.imports.specs.declared.fault.ImportFault.the-variants.{Size, Line}
 use Rattle.imports.specs.declared.fault.LineFault.{LineFault}
 use Rattle.imports.specs.declared.posting.Posting.{Posting}
 use Rattle.imports.specs.Texts.{most-bytes, header, line, written, In-range, Stands, Unambiguous}
-use Rattle.imports.specs.Lines.{Row, rows, Lacks, heading, First, code-faults, row-faults, line-faults, faults-after, Faulty}
+use Rattle.money.specs.Fields.{Lacks}
+use Rattle.imports.specs.Lines.{Row, rows, heading, First, code-faults, row-faults, line-faults, faults-after, Faulty}
 use Rattle.imports.specs.Faults.{Names-line, Refused}
 use Rattle.imports.specs.Reading.{First-row-fault}
 use Rattle.imports.proofs.FirstRow.{good-end}

@@ -10,7 +10,8 @@ use Rattle.std.proofs.shelf.Tests.{true≢false}
 use Rattle.imports.specs.declared.fault.LineFault.{LineFault}
 use Rattle.imports.specs.declared.fault.LineFault.the-variants.{End}
 use Rattle.imports.specs.Texts.{most-in-line}
-use Rattle.imports.specs.Lines.{Row, rows, Lacks, Ladder, First, Bad-end, line-faults}
+use Rattle.money.specs.Fields.{Lacks}
+use Rattle.imports.specs.Lines.{Row, rows, Ladder, First, Bad-end, line-faults}
 use Rattle.imports.specs.Reading.{First-row-fault}
 use Rattle.imports.proofs.Rows.{ended, rows-ended}
 

@@ -4,8 +4,9 @@ use mathlib.Core.List.{List, [], _∷_, _++_}
 use Prim.Native.Nat.{ℕ, _<_}
 use native.Mathlib.Omega.{arith}
 use lib.ListN.{length, getD}
-use Rattle.imports.specs.Lines.{Lacks, Fields, heading, post, transfer, parted, Whole}
-use Rattle.imports.proofs.Cuts.{cut-same, uncut}
+use Rattle.money.specs.Fields.{Lacks}
+use Rattle.imports.specs.Lines.{Fields, heading, post, transfer, parted, Whole}
+use Rattle.money.proofs.Cuts.{cut-same, uncut}
 
 -- one byte in front of the first tab
 pub single : (l : List ℕ) (x : ℕ) → length l ≡ 1 → getD l 0 0 ≡ x → l ≡ x ∷ []

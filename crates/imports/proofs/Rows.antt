@@ -6,7 +6,8 @@ use Prim.Native.Nat.{ℕ, _<_}
 use native.Mathlib.Omega.{arith}
 use lib.ListN.{length}
 use Rattle.std.proofs.shelf.Tests.{ne-eqb}
-use Rattle.imports.specs.Lines.{Row, rows, onto, Lacks}
+use Rattle.money.specs.Fields.{Lacks}
+use Rattle.imports.specs.Lines.{Row, rows, onto}
 
 abbrev pub ended : List ℕ → Row
 ended bytes = record { bytes = bytes; ended = true }

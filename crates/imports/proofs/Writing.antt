@@ -9,15 +9,16 @@ use Rattle.std.specs.Joined.{joined}
 use Rattle.std.specs.Written.{decimal}
 use Rattle.std.specs.shelf.Lists.{All}
 use Rattle.std.proofs.shelf.Decimals.{same-from-decimal, length-decimal-le}
-use Rattle.std.proofs.shelf.Elements.{all-append, all-weaker}
+use Rattle.std.proofs.shelf.Elements.{all-append}
 use Rattle.money.specs.Amounts.{Is-code, places, amount-text, Amount, Short}
 use Rattle.money.proofs.Codes.{places-small}
-use Rattle.money.proofs.Texts.{High, high-decimal, high-amount, amount-short, amount-same}
+use Rattle.money.proofs.Texts.{high-decimal, high-amount, lacks-high, amount-short, amount-same}
 use Rattle.imports.specs.declared.fault.LineFault.{LineFault}
 use Rattle.imports.specs.declared.posting.Posting.{Posting}
 use Rattle.imports.specs.declared.posting.Posting.the-variants.{Post, Transfer}
 use Rattle.imports.specs.Texts.{most-in-line, header, row, line, written, In-range, Stands, Unambiguous}
-use Rattle.imports.specs.Lines.{Row, rows, Lacks, Fields, heading, post, transfer, parted, Whole, Has-fields, Names-code, Is-posting, Bad-cell, One-cell, Amount-field, First, code-faults, row-faults, line-faults, faults-after, Faulty}
+use Rattle.money.specs.Fields.{Lacks}
+use Rattle.imports.specs.Lines.{Row, rows, Fields, heading, post, transfer, parted, Whole, Has-fields, Names-code, Is-posting, Bad-cell, One-cell, Amount-field, First, code-faults, row-faults, line-faults, faults-after, Faulty}
 use Rattle.imports.proofs.Cuts.{same-fields}
 use Rattle.imports.proofs.FirstRow.{good-end}
 use Rattle.imports.proofs.Ladders.{no-fault, Sound-amount}
@@ -31,9 +32,6 @@ fields k (Transfer c o a) = transfer (decimal c) (decimal o) (amount-text k a)
 row-parted : (k : ℕ) (p : Posting) → row k p ≡ parted (fields k p)
 row-parted k (Post c a) = refl
 row-parted k (Transfer c o a) = refl
-
-lacks-high : (b : ℕ) (s : List ℕ) → b < 45 → High s → Lacks b s
-lacks-high b s low high = all-weaker (λ x. 45 ≤ x) (λ x. x ≡ b → ⊥) (λ x h e. omega (arith, h, e)) s high
 
 lacks-cell : (b c : ℕ) → b < 45 → c ≤ 4095 → Lacks b (decimal c)
 lacks-cell b c low small = lacks-high b (decimal c) low (high-decimal c (omega arith))

@@ -7,8 +7,8 @@ use Prim.Native.Nat.{ℕ, _+_, _≤_, _<_}
 use lib.Dec.{eqb}
 use lib.ListN.{length, drop}
 use Rattle.std.specs.Written.{decimal}
-use Rattle.std.specs.shelf.Lists.{All}
 use Rattle.money.specs.Amounts.{Is-code, places, Malformed, Beyond}
+use Rattle.money.specs.Fields.{Lacks}
 use Rattle.money.specs.declared.amount.AmountFault.the-variants.{Form, Limit}
 use Rattle.imports.specs.declared.fault.LineFault.{LineFault}
 use Rattle.imports.specs.declared.fault.LineFault.the-variants.{End, Header, Letter, Cell, Twice, Amount}
@@ -28,10 +28,6 @@ onto b (r ∷ rs) = record { bytes = b ∷ r .bytes; ended = r .ended } ∷ rs
 abbrev pub rows : List ℕ → List Row
 rows [] = []
 rows (b ∷ bs) = cond (eqb b 10) (record { bytes = []; ended = true } ∷ rows bs) (onto b (rows bs))
-
--- The byte does not stand in the list.
-abbrev pub Lacks : ℕ → List ℕ → Type 0
-Lacks b bytes = All (λ x. x ≡ b → ⊥) bytes
 
 -- A line by its letter and the fields after it: H with a code, P with cell and amount, T with two cells and amount.
 pub data Fields : Type 0 where

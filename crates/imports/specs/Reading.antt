@@ -17,7 +17,8 @@ use Rattle.imports.specs.declared.posting.Posting.{Posting}
 use Rattle.money.specs.Amounts.{Is-code}
 use Rattle.money.specs.declared.code.Code.{Code}
 use Rattle.imports.specs.Texts.{top-cell, most-in-line, header, row, line, In-range}
-use Rattle.imports.specs.Lines.{Row, rows, Lacks, Fields, heading, post, transfer, parted, Whole, No-cell, Ladder, First, Bad-end, code-faults, row-faults, line-faults}
+use Rattle.money.specs.Fields.{Lacks}
+use Rattle.imports.specs.Lines.{Row, rows, Fields, heading, post, transfer, parted, Whole, No-cell, Ladder, First, Bad-end, code-faults, row-faults, line-faults}
 
 -- The two sides of the first place where the byte stands, or nothing where it stands nowhere.
 abbrev pub Cuts : ℕ → List ℕ → Option (RefT (List ℕ) × RefT (List ℕ)) → Type 0

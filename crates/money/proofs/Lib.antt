@@ -1,5 +1,6 @@
 pub mod Codes
+pub mod Cuts
 pub mod Numbers
-pub mod Units
 pub mod Signs
 pub mod Texts
+pub mod Units

@@ -5,13 +5,16 @@ use Prim.Native.Nat.{ℕ, zero, suc, _+_, _/_, _^_, _≤_, _<_}
 use native.Mathlib.Omega.{arith}
 use lib.IntN.{ℤ, pos, negsuc}
 use lib.ListN.{length, getD, drop, length-append}
+use lib.Signed.{mag}
 use Rattle.std.specs.Reads.{Digits}
-use Rattle.std.specs.Written.{decimal}
+use Rattle.std.specs.Written.{decimal, signed}
 use Rattle.std.specs.shelf.Lists.{All}
-use Rattle.std.proofs.shelf.Elements.{all-append}
+use Rattle.std.proofs.shelf.Elements.{all-append, all-weaker}
+use Rattle.std.proofs.shelf.Decimals.{decimal-reads}
 use Rattle.std.proofs.shelf.Numerals.{digit-from-value}
 use Rattle.money.specs.Amounts.{bound, fraction, padded, units-text, amount-text, Short}
-use Rattle.money.proofs.Numbers.{all-digits, few-digits}
+use Rattle.money.specs.Fields.{Lacks}
+use Rattle.money.proofs.Numbers.{few-digits}
 use Rattle.money.proofs.Units.{units-same, units-first, digits-padded, length-padded}
 
 -- no byte below the minus, so no tab and no end of a line
@@ -22,15 +25,22 @@ high-digits : (s : List ℕ) → Digits 10 s → High s
 high-digits [] d = tt
 high-digits (c ∷ s) d = (omega (arith, digit-from-value c (d .0) .0), high-digits s (d .1))
 
-pub high-decimal : (n : ℕ) → n < bound → High (decimal n)
-high-decimal n small = high-digits (decimal n) (all-digits n small)
+pub high-decimal : (n : ℕ) → n < 2 ^ 64 → High (decimal n)
+high-decimal n small = high-digits (decimal n) (decimal-reads n small .0 .1)
+
+pub high-signed : (z : ℤ) → mag z < 2 ^ 63 → High (signed z)
+high-signed (pos n) small = high-decimal n (omega arith)
+high-signed (negsuc n) small = (omega arith, high-decimal (suc n) (omega arith))
+
+pub lacks-high : (b : ℕ) (s : List ℕ) → b < 45 → High s → Lacks b s
+lacks-high b s low high = all-weaker (λ x. 45 ≤ x) (λ x. x ≡ b → ⊥) (λ x h e. omega (arith, h, e)) s high
 
 high-fraction : (k n : ℕ) → High (fraction k n)
 high-fraction zero n = tt
 high-fraction (suc k) n = (omega arith, high-digits (padded (suc k) n) (digits-padded (suc k) n))
 
 high-units : (k n : ℕ) → n / 10 ^ k < bound → High (units-text k n)
-high-units k n small = all-append (λ b. 45 ≤ b) (decimal (n / 10 ^ k)) (fraction k n) (high-decimal (n / 10 ^ k) small) (high-fraction k n)
+high-units k n small = all-append (λ b. 45 ≤ b) (decimal (n / 10 ^ k)) (fraction k n) (high-decimal (n / 10 ^ k) (omega arith)) (high-fraction k n)
 
 pub high-amount : (k : ℕ) (z : ℤ) → Short k z → High (amount-text k z)
 high-amount k (pos n) small = high-units k n small

@@ -1,2 +1,3 @@
 pub mod Amounts
 pub mod Faults
+pub mod Fields

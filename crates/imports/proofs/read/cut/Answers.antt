@@ -6,7 +6,7 @@ use lib.ListN.{length, getD, take, drop}
 use Rattle.std.proofs.shelf.Elements.{all-more}
 use Rattle.std.proofs.shelf.Lists.{take-all, take-rest, take-append-drop, drop-more}
 use Rattle.imports.proofs.read.cut.Needs as need
-use Rattle.imports.specs.Lines.{Lacks}
+use Rattle.money.specs.Fields.{Lacks}
 
 pub returns-then-text-i : need.returns-then-text-i
 returns-then-text-i c =

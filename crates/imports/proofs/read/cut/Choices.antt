@@ -1,5 +1,5 @@
 use lib.ListN.{take}
-use Rattle.imports.specs.Lines.{Lacks}
+use Rattle.money.specs.Fields.{Lacks}
 use Rattle.imports.proofs.read.cut.Given as given
 
 -- the byte does not stand in what was passed

@@ -1,4 +1,4 @@
-use Rattle.imports.proofs.Cuts.{uncut}
+use Rattle.money.proofs.Cuts.{uncut}
 use Rattle.imports.proofs.read.last_field.Needs as need
 
 pub returns-in-Some : need.returns-in-Some

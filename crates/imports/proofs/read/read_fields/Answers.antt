@@ -2,8 +2,8 @@ use mathlib.Core.Path.{_≡_, sym, ap, subst, _∙_}
 use mathlib.Core.List.{_∷_, _++_}
 use native.Mathlib.Omega.{arith}
 use lib.ListN.{getD}
-use Rattle.imports.specs.Lines.{Lacks}
-use Rattle.imports.proofs.Cuts.{cut-same, uncut}
+use Rattle.money.specs.Fields.{Lacks}
+use Rattle.money.proofs.Cuts.{cut-same, uncut}
 use Rattle.imports.proofs.Parts.{refute, one-letter, behind}
 use Rattle.imports.proofs.read.read_fields.Needs as need
 
