@@ -1,0 +1,4 @@
+pub mod Alone
+pub mod Eithered
+pub mod Guarded
+pub mod Scripted

@@ -1,0 +1,7 @@
+pub mod Eithers
+pub mod Meaning
+pub mod Plans
+pub mod Scripts
+pub mod Serial
+pub mod Tests
+pub mod Totals
