@@ -38,4 +38,5 @@ module _ {A B : Type 0} {aA : A → Request} {tA : A → ℤ → A} {kA bA : A �
     short = elim [ Left a ↦ p .short a | Right b ↦ q .short b ];
     same-told = elim [ Left a ↦ (λ v. left-same a (tA a v) (p .same-told a v)) | Right b ↦ (λ v. right-same b (tB b v) (q .same-told b v)) ];
     same-taken = elim [ Left a ↦ left-same a (kA a) (p .same-taken a) | Right b ↦ right-same b (kB b) (q .same-taken b) ];
-    same-begin = elim [ Left a ↦ left-same a (bA a) (p .same-begin a) | Right b ↦ right-same b (bB b) (q .same-begin b) ] }
+    same-begin = elim [ Left a ↦ left-same a (bA a) (p .same-begin a) | Right b ↦ right-same b (bB b) (q .same-begin b) ];
+  }

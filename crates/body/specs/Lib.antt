@@ -1,4 +1,5 @@
 pub mod Eithers
+pub mod Makers
 pub mod Meaning
 pub mod Plans
 pub mod Scripts

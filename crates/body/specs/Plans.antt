@@ -32,9 +32,9 @@ module _ {B R : Type 0} (m : Ghosts B) (result : B → R) where
   run-out zero b cs = b
   run-out (suc n) b cs =
       elim (m .asks b) [
-        Read c ↦ run-out n (m .told b (getD cs c (pos 0))) cs
-      | Write c v ↦ run-out n (m .taken b) (set cs c v)
-      | End ↦ b
+        | Read c ↦ run-out n (m .told b (getD cs c (pos 0))) cs
+        | Write c v ↦ run-out n (m .taken b) (set cs c v)
+        | End ↦ b
       ]
 
   -- Restarted and run alone on any cells, the body is handed and leaves just this, and has this result at its end.

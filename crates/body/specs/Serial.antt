@@ -31,9 +31,9 @@ module _ {B : Type 0} (m : Ghosts B) where
   go zero b cs = record { handed = []; cells = cs }
   go (suc n) b cs =
       elim (m .asks b) [
-        Read c ↦ given (getD cs c (pos 0)) (go n (m .told b (getD cs c (pos 0))) cs)
-      | Write c v ↦ go n (m .taken b) (set cs c v)
-      | End ↦ record { handed = []; cells = cs }
+        | Read c ↦ given (getD cs c (pos 0)) (go n (m .told b (getD cs c (pos 0))) cs)
+        | Write c v ↦ go n (m .taken b) (set cs c v)
+        | End ↦ record { handed = []; cells = cs }
       ]
 
   -- A body restarted and asked until it ends.

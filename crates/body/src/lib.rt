@@ -1,6 +1,7 @@
 // Transaction bodies: what the engine may know of one, and the kinds that there are.
 mod body;
 mod either;
+mod making;
 mod request;
 mod script;
 mod steps;

@@ -29,7 +29,10 @@ pub impl Body for Total as TotalBody {
     fn request(&self) -> Request {
         match self.step {
             TotalStep::Read { at, .. } if at <= self.last => Request::Read(usize::from(at)),
-            TotalStep::Write { sum } if is_within(sum) => Request::Write(usize::from(self.target), sum),
+            TotalStep::Write { sum } if is_within(sum) => Request::Write(
+                usize::from(self.target),
+                sum,
+            ),
             _ => Request::End,
         }
     }
@@ -51,7 +54,10 @@ pub impl Body for Total as TotalBody {
     }
 
     fn restart(&mut self) {
-        self.step = TotalStep::Read { at: self.first, sum: 0 };
+        self.step = TotalStep::Read {
+            at: self.first,
+            sum: 0,
+        };
     }
 
     fn reach_of(&self) -> usize {
