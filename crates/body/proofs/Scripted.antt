@@ -63,10 +63,10 @@ below-all : (reach : ℕ) (ss : List ScriptStep) → All Sound-step ss → steps
 below-all reach [] h le = tt
 below-all reach (s ∷ ss) h le = ((h .0, omega arith), below-all reach ss (h .1) (omega arith))
 
-kept-read : (reach c : ℕ) → c < reach → kept reach (Read c) ≡ Read c
+pub kept-read : (reach c : ℕ) → c < reach → kept reach (Read c) ≡ Read c
 kept-read reach c h = ap (λ b. cond b (Read c) End) (lt-ltb c reach h)
 
-kept-write : (reach c : ℕ) (v : ℤ) → c < reach → within? v ≡ true → kept reach (Write c v) ≡ Write c v
+pub kept-write : (reach c : ℕ) (v : ℤ) → c < reach → within? v ≡ true → kept reach (Write c v) ≡ Write c v
 kept-write reach c v h w = ap (λ b. cond b (Write c v) End) (and-from (ltb c reach) (within? v) (lt-ltb c reach h) w)
 
 kept-beyond : (reach c : ℕ) (v : ℤ) → within? v ≡ false → kept reach (Write c v) ≡ End

@@ -24,7 +24,7 @@ use Rattle.body.specs.Tests.{within?}
 use Rattle.body.specs.Totals.{sum-written, summed, total-plan, stepped, sum-known, sum-next, sum-told, total-told-at, total-members, total-asks, total-told, total-taken, total-begin, total-left, total-reach, total-len}
 
 -- a number that fits is not changed by a sum that stops at the bounds
-saturated-fits : (z : ℤ) → natAbs z < 2 ^ 63 → saturated 63 z ≡ z
+pub saturated-fits : (z : ℤ) → natAbs z < 2 ^ 63 → saturated 63 z ≡ z
 saturated-fits (pos n) h = ap pos (omega arith)
 saturated-fits (negsuc n) h = ap negsuc (omega arith)
 
@@ -35,7 +35,7 @@ nothing t = tt
 abbrev Room : ℕ → ℤ → Type 0
 Room n sum = natAbs sum + n * limit < 2 ^ 63
 
-natAbs-add : (x y : ℤ) → natAbs (x +ℤ y) ≤ natAbs x + natAbs y
+pub natAbs-add : (x y : ℤ) → natAbs (x +ℤ y) ≤ natAbs x + natAbs y
 natAbs-add x y = grind (arith, ints)
 
 module _ (t : Total) where

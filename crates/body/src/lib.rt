@@ -1,6 +1,9 @@
 // Transaction bodies: what the engine may know of one, and the kinds that there are.
 mod body;
 mod either;
+mod import_body;
+mod import_new;
+mod importing;
 mod making;
 mod request;
 mod script;
@@ -11,6 +14,9 @@ mod total;
 pub use body::Body;
 pub use either::Either;
 pub use either::EitherBody;
+pub use import_body::ImportBody;
+pub use importing::Import;
+pub use importing::ImportStep;
 pub use request::Request;
 pub use request::RequestDebug;
 pub use request::RequestPartialEq;

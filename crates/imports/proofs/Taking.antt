@@ -1,5 +1,5 @@
 -- One posting from the front of those that a text still has. Assumes nothing.
-use mathlib.Core.Path.{_≡_, refl, sym, ap, subst, _∙_}
+use mathlib.Core.Path.{_≡_, refl, sym, ap, subst, subst₃, _∙_}
 use mathlib.Core.List.{List, [], _∷_, _++_, append-assoc, append-nil}
 use Prim.Native.Nat.{ℕ, _+_, _≤_, _<_}
 use native.Mathlib.Omega.{arith}
@@ -14,6 +14,8 @@ use Rattle.money.proofs.Codes.{places-small}
 use Rattle.imports.specs.declared.fault.LineFault.{LineFault}
 use Rattle.imports.specs.declared.posting.Posting.{Posting}
 use Rattle.imports.specs.Texts.{header, line, row, written, In-range, Stands}
+use Rattle.imports.specs.declared.cursor.Postings.{Postings}
+use Rattle.imports.specs.Cursors.{Takes, Ahead}
 use Rattle.imports.specs.Totals.{Left, Gives}
 use Rattle.imports.specs.Lines.{Row, rows, First, row-faults, line-faults}
 use Rattle.imports.specs.Reading.{First-row-fault, Begins}
@@ -30,25 +32,26 @@ module _ (k : ℕ) (text : List ℕ) (at : ℕ) where
   rows-front : (x : Posting) (s : List ℕ) → In-range k x → rows (line k x ++ s) ≡ posting-row k x ∷ rows s
   rows-front x s range = ap (λ l. rows (l ++ s)) (sym (append-nil (line k x))) ∙ rows-lines k (x ∷ []) s (range, tt)
 
-  first-row : (q : Posting) (qs : List Posting) → Left k text at (q ∷ qs) → rows (drop at text) ≡ posting-row k q ∷ rows (joined (line k) qs)
-  first-row q qs h = ap rows (h .writing) ∙ rows-front q (joined (line k) qs) (h .ranges .0)
+  -- no posting begins where the text ends, or where the first line is faulty
+  pub none-at-end : length text ≤ at → (p : Posting) (n : ℕ) → Begins k (drop at text) p n → ⊥
+  none-at-end end p n b =
+      omega (arith, ap length (b .2), length-append (line k p) (drop n (drop at text)), length-drop at text, line-some k p)
 
-  some-left : (q : Posting) (qs : List Posting) → Left k text at (q ∷ qs) → at < length text
-  some-left q qs h =
-      omega (arith, ap length (h .writing), length-append (line k q) (joined (line k) qs), length-drop at text, line-some k q)
+  pub none-at-fault : k ≤ 2 → (fault : LineFault) → First-row-fault (row-faults k) (drop at text) fault → (p : Posting) (n : ℕ) → Begins k (drop at text) p n → ⊥
+  none-at-fault few fault bad p n b =
+      let lines = sym (bad .2) ∙ ap rows (b .2) ∙ rows-front p (drop n (drop at text)) (b .0) in
+      let same : bad .0 ≡ posting-row k p = cc in
+      good-row k p few (b .0) fault (subst (λ r. First (line-faults (row-faults k) r) fault) same (bad .3))
 
-  pub gives-end : (P : List Posting → Type 0) (ps : List Posting) → length text ≤ at → Left k text at ps → P ps → Gives ps None P
-  gives-end P [] end h p = (refl, p)
-  gives-end P (q ∷ qs) end h p = absurd (omega (arith, some-left q qs h))
+  -- the first of the postings ahead
+  begins-first : (q : Posting) (qs : List Posting) → Left k text at (q ∷ qs) → Begins k (drop at text) q (length (line k q))
+  begins-first q qs h = (
+    h .ranges .0,
+    refl,
+    h .writing ∙ ap (λ s. line k q ++ s) (sym (ap (drop (length (line k q))) (h .writing) ∙ drop-at (line k q) (joined (line k) qs) (length (line k q)) refl)),
+  )
 
-  pub gives-none : k ≤ 2 → (fault : LineFault) → First-row-fault (row-faults k) (drop at text) fault → at < length text → (P : List Posting → Type 0) (ps : List Posting) → Left k text at ps → Gives ps None P
-  gives-none few fault bad some P [] h = absurd (omega (arith, ap length (h .writing), length-drop at text))
-  gives-none few fault bad some P (q ∷ qs) h =
-      let lines = sym (bad .2) ∙ first-row q qs h in
-      let same : bad .0 ≡ posting-row k q = cc in
-      absurd (good-row k q few (h .ranges .0) fault (subst (λ r. First (line-faults (row-faults k) r) fault) same (bad .3)))
-
-  pub gives-one : (p : Posting) (used : ℕ) → Begins k (drop at text) p used → (ps : List Posting) → Left k text at ps → Gives ps (Some p) (Left k text (at + used))
+  gives-one : (p : Posting) (used : ℕ) → Begins k (drop at text) p used → (ps : List Posting) → Left k text at ps → Gives ps (Some p) (Left k text (at + used))
   gives-one p used b [] h = absurd (omega (arith, ap length (b .2), ap length (h .writing), length-append (line k p) (drop used (drop at text)), line-some k p))
   gives-one p used b (q ∷ qs) h =
       let rest = drop used (drop at text) in
@@ -64,6 +67,21 @@ module _ (k : ℕ) (text : List ℕ) (at : ℕ) where
           writing = sym (drop-drop used at text) ∙ after;
         },
       )
+
+-- what is left of one text is left of the same text
+pub left-same : {k l : ℕ} {x y : List ℕ} {i j : ℕ} (ps : List Posting) → k ≡ l → x ≡ y → i ≡ j → Left k x i ps → Left l y j ps
+left-same ps p q r = subst₃ (λ k x i. Left k x i ps) p q r
+
+-- a cursor gives the postings ahead of it one by one
+pub takes-gives : (s t : Postings) (r : Option Posting) (ps : List Posting) → Takes s r t → Ahead s ps → Gives ps r (Ahead t)
+takes-gives s t None [] h a = (refl, left-same [] (ap (λ c. places (c .letters)) (sym (h .same-code))) (sym (h .same-text)) (sym (h .moves .1)) a)
+takes-gives s t None (q ∷ qs) h a = absurd (h .moves .0 q _ (begins-first _ _ _ q qs a))
+takes-gives s t (Some p) ps h a =
+    moved ps (gives-one _ _ _ p (h .moves .0) (h .moves .1) ps a)
+  where
+    moved : (ps : List Posting) → Gives ps (Some p) (Left (places (s .code .letters)) (s .text .now) (s .at + h .moves .0)) → Gives ps (Some p) (Ahead t)
+    moved [] g = let z : _≡_ {A = ℕ} 0 1 = cc (g .0) in absurd (omega arith)
+    moved (q ∷ qs) g = (g .0, left-same qs (ap (λ c. places (c .letters)) (sym (h .same-code))) (sym (h .same-text)) (sym (h .moves .2)) (g .1))
 
 -- behind the header stand the lines of the postings
 pub ahead : (text code : List ℕ) (ps : List Posting) → Stands text code ps → Left (places code) text 6 ps

@@ -3,11 +3,11 @@ ghost use mathlib.Core.List.{List};
 ghost use mathlib.Core.Path.{_≡_};
 ghost use Prim.Native.Nat.{_-_};
 ghost use lib.ListN.{length};
+ghost use Rattle.std.specs.Of.Vec.{vec-items};
 ghost use Rattle.imports.specs.declared.posting.Posting.{Posting};
 ghost use Rattle.imports.specs.Checks.{Tells};
-ghost use Rattle.imports.specs.Cursors.{Ahead};
+ghost use Rattle.imports.specs.Cursors.{Ahead, Takes};
 ghost use Rattle.imports.specs.Texts.{reach, total-length};
-ghost use Rattle.imports.specs.Totals.{Gives};
 use super::checked::Checked;
 use super::cursor::Postings;
 use super::posting::Posting;
@@ -25,21 +25,24 @@ impl Checked {
 
     // How many postings there are.
     pub fn count(&self) -> u32
-        ensures { λ r. ⌜ ((ps : List Posting) → Tells (now (self .entry)) ps → r ≡ length ps) ⌝ }
+        ensures value { λ r. ⌜ r ≡ now (self .entry) .totals .count ⌝ }
+        ensures told { λ r. ⌜ ((ps : List Posting) → Tells (now (self .entry)) ps → r ≡ length ps) ⌝ }
     {
         self.totals.count
     }
 
     // The highest cell named, plus 1, or 0.
     pub fn reach(&self) -> u32
-        ensures { λ r. ⌜ ((ps : List Posting) → Tells (now (self .entry)) ps → r ≡ reach ps) ⌝ }
+        ensures value { λ r. ⌜ r ≡ now (self .entry) .totals .reach ⌝ }
+        ensures told { λ r. ⌜ ((ps : List Posting) → Tells (now (self .entry)) ps → r ≡ reach ps) ⌝ }
     {
         self.totals.reach
     }
 
     // How many cells are read and written.
     pub fn length(&self) -> u32
-        ensures { λ r. ⌜ ((ps : List Posting) → Tells (now (self .entry)) ps → r ≡ total-length ps) ⌝ }
+        ensures value { λ r. ⌜ r ≡ now (self .entry) .totals .length ⌝ }
+        ensures told { λ r. ⌜ ((ps : List Posting) → Tells (now (self .entry)) ps → r ≡ total-length ps) ⌝ }
     {
         self.totals.length
     }
@@ -47,10 +50,19 @@ impl Checked {
     pub fn postings(&self) -> Postings<'_>
         ensures { λ r. ⌜ ((ps : List Posting) → Tells (now (self .entry)) ps → Ahead r ps) ⌝ }
     {
+        self.postings_from(HEADER_BYTES)
+    }
+
+    // A cursor at any place of the text.
+    pub fn postings_from(&self, place: usize) -> Postings<'_>
+        ensures text { λ r. ⌜ now (r .text) ≡ vec-items (now (self .entry) .text) ⌝ }
+        ensures code { λ r. ⌜ r .code ≡ now (self .entry) .code ⌝ }
+        ensures at { λ r. ⌜ r .at ≡ place ⌝ }
+    {
         Postings {
             text: self.text.as_slice(),
             code: self.code,
-            at: HEADER_BYTES,
+            at: place,
         }
     }
 }
@@ -58,7 +70,7 @@ impl Checked {
 pub impl Iterator for Postings<'_> as PostingsIterator {
     type Item = Posting;
 
-    ghost steps = { λ s r t. (ps : List Posting) → Ahead s ps → Gives ps r (Ahead t) };
+    ghost steps = { Takes };
 
     ghost ends = { λ _. Unit {0} };
 

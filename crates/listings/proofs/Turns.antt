@@ -9,8 +9,9 @@ use Rattle.std.specs.Joined.{joined}
 use Rattle.std.proofs.shelf.Lists.{joined-more}
 use Rattle.imports.specs.declared.cursor.Postings.{Postings}
 use Rattle.imports.specs.declared.posting.Posting.{Posting}
-use Rattle.imports.specs.Cursors.{Ahead}
+use Rattle.imports.specs.Cursors.{Ahead, Takes}
 use Rattle.imports.specs.Totals.{Gives}
+use Rattle.imports.proofs.Taking.{takes-gives}
 use Rattle.listings.specs.Listings.{posting-line}
 
 -- some of the postings are listed, and the others are ahead
@@ -21,8 +22,8 @@ pub record Sofar (ps : List Posting) (s : Postings) (out : List ℕ) : Type 0 wh
   pub ahead : Ahead s after
   pub shown : out ≡ joined posting-line before
 
-pub one-more : (ps : List Posting) (s t : Postings) (out : List ℕ) (p : Posting) → Sofar ps s out → ((qs : List Posting) → Ahead s qs → Gives qs (Some p) (Ahead t)) → Sofar ps t (out ++ posting-line p)
-one-more ps s t out p h steps = at (h .after) (h .all) (steps (h .after) (h .ahead))
+pub one-more : (ps : List Posting) (s t : Postings) (out : List ℕ) (p : Posting) → Sofar ps s out → Takes s (Some p) t → Sofar ps t (out ++ posting-line p)
+one-more ps s t out p h steps = at (h .after) (h .all) (takes-gives s t (Some p) (h .after) steps (h .ahead))
   where
     at : (after : List Posting) → h .before ++ after ≡ ps → Gives after (Some p) (Ahead t) → Sofar ps t (out ++ posting-line p)
     at [] e g = let z : _≡_ {A = ℕ} 0 1 = cc (g .0) in absurd (omega arith)
@@ -36,8 +37,8 @@ one-more ps s t out p h steps = at (h .after) (h .all) (steps (h .after) (h .ahe
           shown = ap (λ l. l ++ posting-line p) (h .shown) ∙ joined-more posting-line [] (h .before) p;
         }
 
-pub no-more : (ps : List Posting) (s t : Postings) (out : List ℕ) → Sofar ps s out → ((qs : List Posting) → Ahead s qs → Gives qs None (Ahead t)) → out ≡ joined posting-line ps
-no-more ps s t out h steps = at (h .after) (h .all) (steps (h .after) (h .ahead))
+pub no-more : (ps : List Posting) (s t : Postings) (out : List ℕ) → Sofar ps s out → Takes s None t → out ≡ joined posting-line ps
+no-more ps s t out h steps = at (h .after) (h .all) (takes-gives s t None (h .after) steps (h .ahead))
   where
     at : (after : List Posting) → h .before ++ after ≡ ps → Gives after None (Ahead t) → out ≡ joined posting-line ps
     at [] e g = h .shown ∙ ap (joined posting-line) (sym (append-nil (h .before)) ∙ e)

@@ -26,8 +26,8 @@ loop-posting-again c ps told =
 pub returns : need.returns
 returns c ps told =
     let shown = no-more ps (c .loop-posting .posting-iterator) (c .next .last .self) _ (c .loop-posting .inv ps told) (c .in-None .ensures tt .steps) in
-    let count = c .count-count .ensures ps told in
-    let reach = c .reach-reach .ensures ps told in
-    let length = c .length-length .ensures ps told in
+    let count = c .count-count .ensures .told ps told in
+    let reach = c .reach-reach .ensures .told ps told in
+    let length = c .length-length .ensures .told ps told in
     c .in-Continue-write .ensures tt .bytes
     ∙ (λ i. shown i ++ 76 ∷ 9 ∷ (decimal (count i) ++ 9 ∷ (decimal (reach i) ++ 9 ∷ (decimal (length i) ++ 10 ∷ []))))

@@ -1,4 +1,4 @@
-use mathlib.Core.Path.{subst}
+use mathlib.Core.Path.{refl, subst}
 use native.Mathlib.Omega.{arith}
 use Prim.Native.Nat.{_-_, _+_, _≤_}
 use borrow.Author.Needs.{needs}
@@ -9,12 +9,15 @@ use Rattle.money.proofs.Codes.{places-small}
 use Rattle.imports.specs.Lines.{row-faults}
 use Rattle.imports.specs.Reading.{First-row-fault, Begins}
 use Rattle.imports.proofs.Sofar.{line-some}
-use Rattle.imports.proofs.Taking.{begins-within, gives-end, gives-none, gives-one}
+use Rattle.imports.proofs.Taking.{begins-within, none-at-end, none-at-fault}
 use Rattle.imports.proofs.postings.PostingsIterator.next.Needs as need
 use Rattle.imports.proofs.postings.PostingsIterator.next.Needs.{In-Ok}
 
 pub returns-then-self-len : need.returns-then-self-len
-returns-then-self-len c = record { steps = λ ps h. gives-end _ _ _ _ ps (c .if-self-len .taken) h h; goes = search needs }
+returns-then-self-len c = record {
+  steps = record { same-text = refl; same-code = refl; moves = (none-at-end _ _ _ (c .if-self-len .taken), refl) };
+  goes = search needs;
+}
 
 -- what the line that was read says of the text
 read : (c : In-Ok) → Begins (places (c .args .self .now .code .letters)) (drop (c .args .self .now .at) (c .args .self .now .text .now)) (c .in-Ok .posting) (c .in-Ok .used)
@@ -34,7 +37,7 @@ returns-in-Ok c =
     let here = read (need.at·returns-in-Ok c .In-Ok) in
     let end = within (need.at·returns-in-Ok c .In-Ok) in
     record {
-      steps = λ ps h. gives-one _ _ _ _ _ here ps h;
+      steps = record { same-text = refl; same-code = refl; moves = (c .in-Ok .used, here, refl) };
       goes = record { on = λ _. (tt, tt, omega (arith, end, here .1, line-some (places (c .args .self .now .code .letters)) (c .in-Ok .posting), c .if-self-len .left)) };
     }
 
@@ -43,6 +46,6 @@ returns-in-Err c =
     let code = c .args .self .now .code .letters in
     let bad = subst (λ s. First-row-fault (row-faults (places code)) s (c .in-Err .field-0)) (take-rest (c .args .self .now .text .now) (c .args .self .now .at)) (c .in-Err .ensures tt) in
     record {
-      steps = λ ps h. gives-none _ _ _ (places-small code) (c .in-Err .field-0) bad (c .if-self-len .left) _ ps h;
+      steps = record { same-text = refl; same-code = refl; moves = (none-at-fault _ (c .args .self .now .text .now) (c .args .self .now .at) (places-small code) (c .in-Err .field-0) bad, refl) };
       goes = search needs;
     }
