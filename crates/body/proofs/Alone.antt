@@ -47,3 +47,7 @@ module _ {B R : Type 0} (m : Ghosts B) (result : B → R) (law : Lawful (m .asks
     outcome = goes p (m .left (m .begin b)) (m .begin b) cs f (omega arith);
     ends-with = rests p (m .left (m .begin b)) (m .begin b) cs f (omega arith);
   }
+
+-- what runs alone as one account says also runs as an account that agrees with it
+pub runs-as : {B R : Type 0} (m : Ghosts B) (result : B → R) (b : B) (d e : List ℤ → Done R) (cs : List ℤ) → (d cs .outcome ≡ e cs .outcome) × (d cs .result ≡ e cs .result) → Runs-alone m result b d cs → Runs-alone m result b e cs
+runs-as m result b d e cs same runs = record { outcome = runs .outcome ∙ same .0; ends-with = runs .ends-with ∙ same .1 }

@@ -26,10 +26,12 @@ use Rattle.body.specs.declared.request.Request.{Request}
 use Rattle.body.specs.declared.request.Request.the-variants.{Read, Write, End}
 use Rattle.body.specs.Imports.{post-good, transfer-good, import-plan, import-asks, import-at, import-answered, import-written, import-members, import-reach, took-next, next-line, one-more, skipped, sum64, less64, after-post, after-transfer, after-first, entered}
 use Rattle.body.specs.MadeImports.{unposted, Made-import}
-use Rattle.body.specs.Plans.{Plan, read, write, end, Follows}
+use Rattle.body.specs.Outcomes.{booked}
+use Rattle.body.specs.Plans.{Plan, read, write, end, Follows, carried-out}
 use Rattle.body.specs.Reading.{postings, postings-are}
 use Rattle.body.specs.Tests.{kept, within?, on-read, on-write}
-use Rattle.body.proofs.Alone.{runs-alone}
+use Rattle.body.proofs.Alone.{runs-alone, runs-as}
+use Rattle.body.proofs.Doing.{does-import}
 use Rattle.body.proofs.Imported.{next-checked, import-lawful}
 use Rattle.body.proofs.Lines.{few-told}
 use Rattle.body.proofs.Scripted.{kept-read, kept-write}
@@ -140,7 +142,8 @@ made-import i ps told =
     record {
       starts = starts;
       follows = follows;
-      alone = λ cells. runs-alone import-members unposted import-lawful (import-plan ps 0) (next-line i 0 0) cells (subst (Follows import-members unposted (import-plan ps 0)) (sym starts) follows);
+      alone = λ cells room. runs-as import-members unposted (next-line i 0 0) (carried-out (import-plan ps 0)) (booked ps) cells (does-import ps cells)
+          (runs-alone import-members unposted import-lawful (import-plan ps 0) (next-line i 0 0) cells (subst (Follows import-members unposted (import-plan ps 0)) (sym starts) follows));
       reaches = ap (λ (j : Checked). j .totals .reach) checked ∙ totals .1;
       lasts = ap (λ (j : Checked). j .totals .length) checked ∙ totals .2;
     }

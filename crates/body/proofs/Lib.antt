@@ -1,5 +1,6 @@
 pub mod Alone
 pub mod Booked
+pub mod Doing
 pub mod Eithered
 pub mod Guarded
 pub mod Imported

@@ -3,6 +3,7 @@ pub mod Imports
 pub mod MadeImports
 pub mod Makers
 pub mod Meaning
+pub mod Outcomes
 pub mod Plans
 pub mod Reading
 pub mod Scripts

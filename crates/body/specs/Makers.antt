@@ -16,7 +16,8 @@ use Rattle.body.specs.declared.steps.ScriptStep.the-variants.{Read, Put, Carry
 use Rattle.body.specs.declared.sum.Total.{Total}
 use Rattle.body.specs.declared.sum.TotalRefusal.{TotalRefusal}
 use Rattle.body.specs.Meaning.{Within}
-use Rattle.body.specs.Plans.{Plan, Follows, Runs-alone, carried-out}
+use Rattle.body.specs.Outcomes.{scripted, totalled}
+use Rattle.body.specs.Plans.{Plan, Done, Follows, Runs-alone}
 use Rattle.body.specs.Scripts.{script-plan, script-members}
 use Rattle.body.specs.Totals.{total-plan, total-members}
 
@@ -24,12 +25,12 @@ use Rattle.body.specs.Totals.{total-plan, total-members}
 abbrev pub top-cell : ℕ
 top-cell = 4095
 
--- A body that stands at its start, follows this plan whatever it is told, and alone does what the plan says. Its reach and
--- its length are these.
-pub record Made {B R : Type 0} (m : Ghosts B) (result : B → R) (plan : Plan R) (reach len : ℕ) (b : B) : Type 0 where
+-- A body that stands at its start and follows this plan whatever it is told. Alone, on cells that go as far as its reach,
+-- it does just this. Its reach and its length are these.
+pub record Made {B R : Type 0} (m : Ghosts B) (result : B → R) (plan : Plan R) (does : List ℤ → Done R) (reach len : ℕ) (b : B) : Type 0 where
   pub starts : m .begin b ≡ b
   pub follows : Follows m result plan b
-  pub alone : (cells : List ℤ) → Runs-alone m result b (carried-out plan) cells
+  pub alone : (cells : List ℤ) → reach ≤ length cells → Runs-alone m result b does cells
   pub reaches : m .reach b ≡ reach
   pub lasts : m .len b ≡ len
 
@@ -43,7 +44,7 @@ Total-can first last target = (first ≤ last) × (last ≤ top-cell) × (target
 abbrev pub Makes-total : ℕ → ℕ → ℕ → Result Total TotalRefusal → Type 0
 Makes-total first last target r =
     Cases r
-    (λ t. Total-can first last target × Made total-members no-result (total-plan first last target) (max last target + 1) (last - first + 2) t)
+    (λ t. Total-can first last target × Made total-members no-result (total-plan first last target) (totalled first last target) (max last target + 1) (last - first + 2) t)
     (λ _. Total-can first last target → ⊥)
 
 abbrev pub total-refusal-number : TotalRefusal → ℕ
@@ -77,7 +78,7 @@ Script-refused steps BadStep = (length steps ≤ most-steps) × (All Sound-step 
 abbrev pub Makes-script : List ScriptStep → Result Script ScriptRefusal → Type 0
 Makes-script steps r =
     Cases r
-    (λ s. (length steps ≤ most-steps) × All Sound-step steps × Made script-members no-result (script-plan steps (pos 0)) (steps-reach steps) (length steps) s)
+    (λ s. (length steps ≤ most-steps) × All Sound-step steps × Made script-members no-result (script-plan steps (pos 0)) (scripted steps (pos 0)) (steps-reach steps) (length steps) s)
     (Script-refused steps)
 
 abbrev pub script-refusal-number : ScriptRefusal → ℕ
