@@ -2,14 +2,13 @@
 ghost use mathlib.Core.Path.{_≡_};
 ghost use Rattle.body.specs.Imports.{Line-read, after-first, after-post, after-transfer, entered, import-answered, import-asks, import-begin, import-left, import-len, import-reach, import-step-asks, import-taken, import-told, import-written, next-line, skipped};
 use super::body::Body;
+use super::importing::HEADER_BYTES;
 use super::importing::Import;
 use super::importing::ImportStep;
 use super::request::Request;
 use super::request::is_within;
 use imports::Posting;
 use imports::PostingsIterator;
-
-const HEADER_BYTES: usize = 6;
 
 pub impl Body for Import as ImportBody {
     const KIND: u32 = 1;

@@ -6,11 +6,10 @@ ghost use Rattle.imports.specs.Checks.{Tells};
 ghost use Rattle.body.specs.MadeImports.{Made-import};
 use super::body::Body;
 use super::import_body::ImportBody;
+use super::importing::HEADER_BYTES;
 use super::importing::Import;
 use super::importing::ImportStep;
 use imports::Checked;
-
-const HEADER_BYTES: usize = 6;
 
 impl Import {
     pub fn new(checked: Checked) -> Import
