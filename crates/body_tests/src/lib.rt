@@ -3,6 +3,8 @@
 #[cfg(test)]
 mod alone;
 #[cfg(test)]
+mod bookings;
+#[cfg(test)]
 mod calls;
 #[cfg(test)]
 mod eithers;
