@@ -11,6 +11,8 @@ mod eithers;
 #[cfg(test)]
 mod limits;
 #[cfg(test)]
+mod long;
+#[cfg(test)]
 mod refusals;
 #[cfg(test)]
 mod scripts;
