@@ -58,7 +58,7 @@ fn answer<B: Body>(
 }
 
 // Restarted and run alone on these cells, the body is handed these amounts, leaves these cells and ends within its length.
-pub fn runs<B: Body>(
+pub(crate) fn runs<B: Body>(
     heap: Global,
     body: &mut B,
     tellings: Tellings,
@@ -82,7 +82,7 @@ pub fn runs<B: Body>(
 }
 
 // The same from the start on, with wrong tellings, and after a restart at each place in the middle.
-pub fn does<B: Body>(
+pub(crate) fn does<B: Body>(
     heap: Global,
     body: &mut B,
     cells: &[i64],

@@ -13,7 +13,7 @@ pub enum Call {
 }
 
 // After each call the body asks for this.
-pub fn answers<B: Body>(body: &mut B, table: &[(Call, Request)]) -> Result<(), Fail> {
+pub(crate) fn answers<B: Body>(body: &mut B, table: &[(Call, Request)]) -> Result<(), Fail> {
     for (call, request) in table.iter().copied() {
         match call {
             Call::Tell(amount) => body.tell(amount),

@@ -15,7 +15,7 @@ use body::ScriptStep::Read;
 use std::alloc::Global;
 use std::test::*;
 
-pub fn script(heap: Global, steps: &[ScriptStep]) -> Result<Script, Fail> {
+pub(crate) fn script(heap: Global, steps: &[ScriptStep]) -> Result<Script, Fail> {
     Ok(Script::new(steps.to_vec(heap)?)?)
 }
 

@@ -4,7 +4,7 @@ use std::alloc::Global;
 use std::test::*;
 
 // The text is refused with this line and this number.
-pub fn refused(heap: Global, text: &[u8], line: u32, number: u32) -> Result<(), Fail> {
+pub(crate) fn refused(heap: Global, text: &[u8], line: u32, number: u32) -> Result<(), Fail> {
     match check(text.to_vec(heap)?) {
         Ok(_) => Err(Fail::new("the text is admitted")),
         Err(fault) => check_eq((fault.line(), fault.number()), (line, number)),
@@ -12,7 +12,7 @@ pub fn refused(heap: Global, text: &[u8], line: u32, number: u32) -> Result<(), 
 }
 
 // The text is admitted, with so many postings, this reach and this length.
-pub fn admitted(
+pub(crate) fn admitted(
     heap: Global,
     text: &[u8],
     count: u32,

@@ -19,14 +19,14 @@ fn push_markers(buffer: &mut Vec<u8>, count: usize) -> Result<(), AllocError> {
 }
 
 // A buffer of so many marker bytes.
-pub fn marked(heap: Global, size: usize) -> Result<Vec<u8>, AllocError> {
+pub(crate) fn marked(heap: Global, size: usize) -> Result<Vec<u8>, AllocError> {
     let mut buffer = Vec::new(heap);
     push_markers(&mut buffer, size)?;
     Ok(buffer)
 }
 
 // The line of record `i` is this text, in a buffer with so many bytes before it and so many behind it.
-pub fn writes(
+pub(crate) fn writes(
     heap: Global,
     journal: &[Record],
     i: usize,
@@ -44,7 +44,7 @@ pub fn writes(
 }
 
 // The line of record `i` is refused at this place of a buffer of this size, and the buffer is untouched.
-pub fn refuses(
+pub(crate) fn refuses(
     heap: Global,
     journal: &[Record],
     i: usize,
