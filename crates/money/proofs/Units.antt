@@ -1,11 +1,10 @@
 -- The digits after the point, and amounts with no sign. Assumes nothing.
-use Rattle.std.proofs.Common.{◌≡◌, ℕ, zero, suc, ◌+◌, ◌-◌, ◌*◌, ◌/◌, ◌%◌, ◌^◌, ◌<◌, ◌≤◌, List, [], ◌∷◌, ◌++◌, length, get_or, take, drop, Some, None, decimal, Option, sym, refl, ap, ◌∙◌, subst, ⊎_elim, append_assoc, add_assoc, mul_assoc, add-mul, pow-suc, arith, length-append, length-drop, MatchOption}
-use native.Mathlib.Nat.{pow-succ', div-div-eq-div-mul, pow-le-pow_right}
+use Rattle.std.proofs.Common.{◌≡◌, ℕ, zero, suc, ◌+◌, ◌*◌, ◌/◌, ◌%◌, ◌^◌, ◌<◌, ◌≤◌, List, [], ◌∷◌, ◌++◌, length, get_or, take, drop, decimal, sym, refl, ap, ◌∙◌, subst, append_assoc, mul_assoc, pow-suc, arith, length-append, length-drop}
+use native.Mathlib.Nat.{pow-succ', div-div-eq-div-mul}
 use lib.Arith.{digits_div}
 use Rattle.std.specs.Str.Parse.{AllDigits, digits_value, digits_value_after}
 use Rattle.std.specs.Char.{digit_value as digitValue}
 use Rattle.std.specs.Int.{IsInRange}
-use Rattle.std.proofs.lemmas.Nat.{div-add-mod'}
 use Rattle.std.proofs.lemmas.Fmt.{decimal_injective}
 use Rattle.std.proofs.lemmas.Int.Digits.{digits_push, digits_value_push, digits_value-lt}
 use Rattle.std.proofs.lemmas.List.{length_push, get_or_at, take_at, drop_at, take-append-drop, drop_more, append_cancel_right, get_or_append_left}

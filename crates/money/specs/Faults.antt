@@ -2,7 +2,7 @@
 use Rattle.std.specs.Prelude.{◌≡◌, ℕ, List, ℤ, Result, MatchResult}
 use Rattle.money.specs.declared.amount.AmountFault.{AmountFault}
 use Rattle.money.specs.declared.amount.AmountFault.TheVariants.{Form, Limit}
-use Rattle.money.specs.Amounts.{Writes, Amount, Malformed, Beyond, amount_text}
+use Rattle.money.specs.Amounts.{Amount, Malformed, Beyond, amount_text}
 
 -- The number under which a fault is reported.
 abbrev pub amount_fault_number : AmountFault → ℕ

@@ -1,5 +1,5 @@
 -- Fields of a line of text, and the byte that parts them.
-use Rattle.std.specs.Prelude.{◌≡◌, ℕ, List, ◌≢◌}
+use Rattle.std.specs.Prelude.{ℕ, List, ◌≢◌}
 use Rattle.std.specs.List.{AllByRecursion as All}
 
 -- The byte does not stand in the list.

@@ -1,4 +1,6 @@
 // Amounts of money: the limit, currency codes with their digits after the point, and reading an amount's text.
+#![tactic(auto)]
+
 mod amount;
 mod code;
 mod number;

@@ -1,4 +1,4 @@
-use Rattle.std.proofs.Common.{length, get_or, ap, ⊎_elim, arith}
+use Rattle.std.proofs.Common.{length, get_or, ap, arith}
 use Rattle.money.proofs.Numbers.{some_digits, few_digits, no_zero, reads_number}
 use Rattle.money.proofs.number.read_number.Goals as goal
 
@@ -13,6 +13,6 @@ returns-then-len-gt1 c n small e =
 
 pub returns : goal.returns
 returns c =
-    reads_number c.args.field.now c.digits-value.result (omega arith) c.if-len-gt-MOST-DIGITS.false
+    reads_number c.args.field.now c.digits_value.result (omega arith) c.if-len-gt-MOST_DIGITS.false
     (λ zero. omega (arith, c.else-field-eq48.either, zero))
-    c.digits-value.ensures
+    c.digits_value.ensures
