@@ -1,4 +1,6 @@
 // Reads an input to its end and keeps no more of it than is wanted, however long it is.
+#![tactic(auto)]
+
 ghost use Rattle.std.specs.Prelude.{◌≤◌, IfOk, vec_len};
 
 use std::alloc::Global;
