@@ -1,13 +1,12 @@
 -- Two different records have different lines. Assumes nothing.
-use Rattle.std.proofs.Common.{◌≡◌, ℕ, ◌^◌, ◌<◌, List, [], ◌∷◌, ◌++◌, ℤ, decimal, sym, refl, ap, ◌∙◌, arith}
+use Rattle.std.proofs.Common.{◌≡◌, ℕ, ◌^◌, ◌<◌, List, [], ◌∷◌, ◌++◌, ℤ, decimal, arith}
 use lib.Signed.{mag}
 use Rattle.std.specs.Fmt.{signed_decimal}
 use Rattle.std.proofs.lemmas.Fmt.{decimal_injective, signed_decimal_injective}
 use Rattle.money.proofs.Cuts.{head, tail, cut_same}
 use Rattle.money.proofs.Texts.{high_decimal, high_signed, lacks_high}
-use Rattle.journal.specs.declared.record.Record.{Record}
 use Rattle.journal.specs.declared.record.Record.TheVariants.{Change, Commit}
-use Rattle.journal.specs.Lines.{Distinct, line_of}
+use Rattle.journal.specs.Lines.{Distinct}
 
 -- the first of the fields that are parted by a byte below the digits, and what follows
 number_first : (b m n : ℕ) (s t : List ℕ) → b < 45 → m < 2 ^ 32 → n < 2 ^ 32 → decimal m ++ b ∷ s ≡ decimal n ++ b ∷ t → (m ≡ n) × (s ≡ t)

@@ -1,5 +1,7 @@
 // The journal: its records, and the line of text that stands for each.
 
+#![tactic(auto)]
+
 mod lines;
 mod record;
 mod refusal;

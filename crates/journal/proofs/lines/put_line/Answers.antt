@@ -18,40 +18,40 @@ commit_room c = omega (arith, c.requires, ap (λ r. length (line_of r)) c.in-Com
 passed : (c : In-Change) → signed_decimal (to_z w64 (of_z w64 c.in-Change.amount)) ≡ signed_decimal c.in-Change.amount
 passed c = let fits : SFits w64 c.in-Change.amount = search rules in ap signed_decimal (to_z-of_z w64 c.in-Change.amount fits)
 
-pub put-field-at-requires : goal.put-field-at-requires
-put-field-at-requires c = omega (arith, change_room (goal.at.put-field-at-requires c).In-Change)
+pub put_field-at-requires : goal.put_field-at-requires
+put_field-at-requires c = omega (arith, change_room (goal.at.put_field-at-requires c).In-Change)
 
-pub put-field-at-requires-in-Change : goal.put-field-at-requires-in-Change
-put-field-at-requires-in-Change c = omega (arith, change_room (goal.at.put-field-at-requires-in-Change c).In-Change)
+pub put_field-at-requires-in-Change : goal.put_field-at-requires-in-Change
+put_field-at-requires-in-Change c = omega (arith, change_room (goal.at.put_field-at-requires-in-Change c).In-Change)
 
-pub put-byte-at-requires-in-Change : goal.put-byte-at-requires-in-Change
-put-byte-at-requires-in-Change c = omega (arith, change_room (goal.at.put-byte-at-requires-in-Change c).In-Change)
+pub put_byte-at-requires-in-Change : goal.put_byte-at-requires-in-Change
+put_byte-at-requires-in-Change c = omega (arith, change_room (goal.at.put_byte-at-requires-in-Change c).In-Change)
 
-pub put-signed-at-requires : goal.put-signed-at-requires
-put-signed-at-requires c =
-    let at = (goal.at.put-signed-at-requires c).In-Change in omega (arith, change_room at, ap length (passed at))
+pub put_signed-at-requires : goal.put_signed-at-requires
+put_signed-at-requires c =
+    let at = (goal.at.put_signed-at-requires c).In-Change in omega (arith, change_room at, ap length (passed at))
 
-pub put-byte-requires : goal.put-byte-requires
-put-byte-requires c =
-    let at = (goal.at.put-byte-requires c).In-Change in omega (arith, change_room at, ap length (passed at))
+pub put_byte-requires : goal.put_byte-requires
+put_byte-requires c =
+    let at = (goal.at.put_byte-requires c).In-Change in omega (arith, change_room at, ap length (passed at))
 
-pub put-field-at-requires-in-Commit : goal.put-field-at-requires-in-Commit
-put-field-at-requires-in-Commit c = omega (arith, commit_room (goal.at.put-field-at-requires-in-Commit c).In-Commit)
+pub put_field-at-requires-in-Commit : goal.put_field-at-requires-in-Commit
+put_field-at-requires-in-Commit c = omega (arith, commit_room (goal.at.put_field-at-requires-in-Commit c).In-Commit)
 
-pub put-field-at-requires-in-Commit-2 : goal.put-field-at-requires-in-Commit-2
-put-field-at-requires-in-Commit-2 c = omega (arith, commit_room (goal.at.put-field-at-requires-in-Commit-2 c).In-Commit)
+pub put_field-at-requires-in-Commit-2 : goal.put_field-at-requires-in-Commit-2
+put_field-at-requires-in-Commit-2 c = omega (arith, commit_room (goal.at.put_field-at-requires-in-Commit-2 c).In-Commit)
 
-pub put-field-at-requires-in-Commit-3 : goal.put-field-at-requires-in-Commit-3
-put-field-at-requires-in-Commit-3 c = omega (arith, commit_room (goal.at.put-field-at-requires-in-Commit-3 c).In-Commit)
+pub put_field-at-requires-in-Commit-3 : goal.put_field-at-requires-in-Commit-3
+put_field-at-requires-in-Commit-3 c = omega (arith, commit_room (goal.at.put_field-at-requires-in-Commit-3 c).In-Commit)
 
-pub put-field-at-requires-in-Commit-4 : goal.put-field-at-requires-in-Commit-4
-put-field-at-requires-in-Commit-4 c = omega (arith, commit_room (goal.at.put-field-at-requires-in-Commit-4 c).In-Commit)
+pub put_field-at-requires-in-Commit-4 : goal.put_field-at-requires-in-Commit-4
+put_field-at-requires-in-Commit-4 c = omega (arith, commit_room (goal.at.put_field-at-requires-in-Commit-4 c).In-Commit)
 
-pub put-field-at-requires-in-Commit-5 : goal.put-field-at-requires-in-Commit-5
-put-field-at-requires-in-Commit-5 c = omega (arith, commit_room (goal.at.put-field-at-requires-in-Commit-5 c).In-Commit)
+pub put_field-at-requires-in-Commit-5 : goal.put_field-at-requires-in-Commit-5
+put_field-at-requires-in-Commit-5 c = omega (arith, commit_room (goal.at.put_field-at-requires-in-Commit-5 c).In-Commit)
 
-pub put-byte-requires-in-Commit : goal.put-byte-requires-in-Commit
-put-byte-requires-in-Commit c = omega (arith, commit_room (goal.at.put-byte-requires-in-Commit c).In-Commit)
+pub put_byte-requires-in-Commit : goal.put_byte-requires-in-Commit
+put_byte-requires-in-Commit c = omega (arith, commit_room (goal.at.put_byte-requires-in-Commit c).In-Commit)
 
 pub returns-in-Change : goal.returns-in-Change
 returns-in-Change c =
@@ -62,9 +62,9 @@ returns-in-Change c =
     same_bytes (written ∙ ap line_of (sym c.in-Change.is))
     (then (omega (arith, room, long))
     (then (omega (arith, room))
-    (then (omega (arith, room)) (then (omega (arith, room)) (then (omega (arith, room)) c.put-byte-at.ensures c.put-field-at.ensures) c.put-field-at-in-Change.ensures) c.put-byte-at-in-Change.ensures)
-    (same_bytes (passed at) c.put-signed-at.ensures))
-    c.put-byte.ensures)
+    (then (omega (arith, room)) (then (omega (arith, room)) (then (omega (arith, room)) c.put_byte-at.ensures c.put_field-at.ensures) c.put_field-at-in-Change.ensures) c.put_byte-at-in-Change.ensures)
+    (same_bytes (passed at) c.put_signed-at.ensures))
+    c.put_byte.ensures)
 
 pub returns-in-Commit : goal.returns-in-Commit
 returns-in-Commit c =
@@ -75,8 +75,8 @@ returns-in-Commit c =
     (then (omega (arith, room))
     (then (omega (arith, room))
     (then (omega (arith, room))
-    (then (omega (arith, room)) (then (omega (arith, room)) c.put-byte-at-in-Commit.ensures c.put-field-at-in-Commit.ensures) c.put-field-at-in-Commit-2.ensures)
-    c.put-field-at-in-Commit-3.ensures)
-    c.put-field-at-in-Commit-4.ensures)
-    c.put-field-at-in-Commit-5.ensures)
-    c.put-byte-in-Commit.ensures)
+    (then (omega (arith, room)) (then (omega (arith, room)) c.put_byte-at-in-Commit.ensures c.put_field-at-in-Commit.ensures) c.put_field-at-in-Commit-2.ensures)
+    c.put_field-at-in-Commit-3.ensures)
+    c.put_field-at-in-Commit-4.ensures)
+    c.put_field-at-in-Commit-5.ensures)
+    c.put_byte-in-Commit.ensures)

@@ -9,6 +9,6 @@ pub returns-else-n-lt10 : goal.returns-else-n-lt10
 returns-else-n-lt10 t c =
     let long = length_last c.args.n c.if-n-lt10.false (omega arith) in
     record {
-      value = ap (λ l. l + 1) c.decimal-length.ensures.value ∙ sym long;
-      bound = omega (arith, c.decimal-length.ensures.value, long, few_digits c.args.n (omega arith));
+      value = ap (λ l. l + 1) c.decimal_length.ensures.value ∙ sym long;
+      bound = omega (arith, c.decimal_length.ensures.value, long, few_digits c.args.n (omega arith));
     }
