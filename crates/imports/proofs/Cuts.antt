@@ -1,5 +1,5 @@
 -- The fields of a line, which it has in one way. Assumes nothing.
-use Rattle.std.proofs.Common.{◌≡◌, ℕ, List, [], ◌∷◌, ◌++◌, ap, arith}
+use Rattle.std.proofs.Common.{◌≡◌, ℕ, List, ◌∷◌, ap, arith}
 use Rattle.money.proofs.Cuts.{head, tail, cut_same}
 use Rattle.imports.specs.Lines.{Fields, heading, post, transfer, parted, Whole}
 

@@ -1,12 +1,12 @@
 -- The first fault of a text's first line, from what was read of it. Assumes nothing.
-use Rattle.std.proofs.Common.{◌≡◌, ℕ, ◌+◌, ◌≤◌, List, [], ◌∷◌, ◌++◌, length, drop, sym, refl, ap, ◌∙◌, inl, inr, ⊎_elim, append_assoc, arith}
+use Rattle.std.proofs.Common.{◌≡◌, ℕ, ◌+◌, ◌≤◌, List, [], ◌∷◌, ◌++◌, length, drop, sym, ap, ◌∙◌, inl, inr, ⊎_elim, append_assoc, arith}
 use Rattle.std.proofs.lemmas.List.{length_push, drop_at}
 use Rattle.std.proofs.lemmas.Bool.{true≢false}
 use Rattle.imports.specs.declared.fault.LineFault.{LineFault}
 use Rattle.imports.specs.declared.fault.LineFault.TheVariants.{End}
 use Rattle.imports.specs.Texts.{most_in_line}
 use Rattle.money.specs.Fields.{Lacks}
-use Rattle.imports.specs.Lines.{Row, rows, Ladder, First, BadEnd, line_faults}
+use Rattle.imports.specs.Lines.{Row, rows, Ladder, First, BadEnd}
 use Rattle.imports.specs.Reading.{FirstRowFault}
 use Rattle.imports.proofs.Rows.{ended, rows_ended}
 

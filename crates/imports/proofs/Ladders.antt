@@ -1,6 +1,6 @@
 -- The first fault of a line whose fields are known. Assumes nothing.
-use Rattle.std.proofs.Common.{◌≡◌, ℕ, ◌<◌, ◌≤◌, ◌⊎◌, List, nat_abs, sym, refl, ap, ◌∙◌, subst, inl, inr, ⊎_elim, arith}
-use Rattle.money.specs.Amounts.{Malformed, Beyond, Amount, Writes, amount_text}
+use Rattle.std.proofs.Common.{◌≡◌, ℕ, List, nat_abs, sym, refl, ap, ◌∙◌, subst, inl, inr, ⊎_elim, arith}
+use Rattle.money.specs.Amounts.{Malformed, Beyond, Amount, amount_text}
 use Rattle.money.specs.Faults.{IsAmountFault}
 use Rattle.money.specs.declared.amount.AmountFault.{AmountFault}
 use Rattle.money.specs.declared.amount.AmountFault.TheVariants.{Form, Limit}

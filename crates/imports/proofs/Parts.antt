@@ -1,8 +1,8 @@
 -- What reading the letter and the fields of a line has found. Assumes nothing.
-use Rattle.std.proofs.Common.{◌≡◌, ℕ, ◌<◌, List, [], ◌∷◌, ◌++◌, length, get_or, sym, refl, ap, ◌∙◌, subst, arith}
+use Rattle.std.proofs.Common.{◌≡◌, ℕ, List, [], ◌∷◌, ◌++◌, length, get_or, sym, ap, ◌∙◌, arith}
 use Rattle.money.specs.Fields.{Lacks}
 use Rattle.imports.specs.Lines.{Fields, heading, post, transfer, parted, Whole}
-use Rattle.money.proofs.Cuts.{cut_same, uncut}
+use Rattle.money.proofs.Cuts.{cut_same}
 
 -- one byte in front of the first tab
 pub single : (l : List ℕ) (x : ℕ) → length l ≡ 1 → get_or l 0 0 ≡ x → l ≡ x ∷ []

@@ -1,8 +1,8 @@
 -- The lines of a text that is cut at its ends. Assumes nothing.
-use Rattle.std.proofs.Common.{◌≡◌, ℕ, ◌<◌, true, false, List, [], ◌∷◌, ◌++◌, length, sym, refl, ap, ◌∙◌, subst, append_assoc, append-nil, arith}
+use Rattle.std.proofs.Common.{◌≡◌, ℕ, ◌<◌, true, false, List, [], ◌∷◌, ◌++◌, length, refl, arith}
 use Rattle.std.proofs.lemmas.Bool.{ne_eqb}
 use Rattle.money.specs.Fields.{Lacks}
-use Rattle.imports.specs.Lines.{Row, rows, onto}
+use Rattle.imports.specs.Lines.{Row, rows}
 
 abbrev pub ended : List ℕ → Row
 ended bytes = record { bytes = bytes; ended = true }

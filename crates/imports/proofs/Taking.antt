@@ -1,19 +1,17 @@
 -- One posting from the front of those that a text still has. Assumes nothing.
-use Rattle.std.proofs.Common.{◌≡◌, ℕ, ◌+◌, ◌<◌, ◌≤◌, List, [], ◌∷◌, ◌++◌, length, drop, Some, None, Option, sym, refl, ap, ◌∙◌, subst, append_assoc, append-nil, arith, length-append, length-drop}
+use Rattle.std.proofs.Common.{◌≡◌, ℕ, ◌+◌, ◌≤◌, List, [], ◌∷◌, ◌++◌, length, drop, Some, None, Option, sym, refl, ap, ◌∙◌, subst, append-nil, arith, length-append, length-drop}
 use mathlib.Core.Path.{subst₃}
-use Rattle.std.specs.List.{flat_map, AllByRecursion as All}
-use Rattle.std.proofs.lemmas.List.{append_cancel_left, drop-drop, drop_at, nil_from_length}
+use Rattle.std.specs.List.{flat_map}
+use Rattle.std.proofs.lemmas.List.{append_cancel_left, drop-drop, drop_at}
 use Rattle.money.specs.Amounts.{places}
-use Rattle.money.proofs.Codes.{places_small}
 use Rattle.imports.specs.declared.fault.LineFault.{LineFault}
 use Rattle.imports.specs.declared.posting.Posting.{Posting}
-use Rattle.imports.specs.Texts.{header, line, row, written, InRange, Stands}
+use Rattle.imports.specs.Texts.{header, line, InRange, Stands}
 use Rattle.imports.specs.declared.cursor.Postings.{Postings}
 use Rattle.imports.specs.Cursors.{Takes, Ahead}
 use Rattle.imports.specs.Totals.{Left, Gives}
 use Rattle.imports.specs.Lines.{Row, rows, First, row_faults, line_faults}
 use Rattle.imports.specs.Reading.{FirstRowFault, Begins}
-use Rattle.imports.proofs.Rows.{ended}
 use Rattle.imports.proofs.Sofar.{line_some}
 use Rattle.imports.proofs.Writing.{posting_row, rows_lines, same_row, good_row}
 

@@ -1,17 +1,16 @@
 -- The lines of a written text: they have no fault, and no other postings have the same lines. Assumes nothing.
-use Rattle.std.proofs.Common.{◌≡◌, ℕ, ◌+◌, ◌<◌, ◌≤◌, ◌⊎◌, List, [], ◌∷◌, ◌++◌, map, length, drop, decimal, sym, refl, ap, ◌∙◌, subst, inl, inr, ⊎_elim, append_assoc, arith, length-append}
+use Rattle.std.proofs.Common.{◌≡◌, ℕ, ◌<◌, ◌≤◌, List, [], ◌∷◌, ◌++◌, map, length, decimal, sym, refl, ap, ◌∙◌, ⊎_elim, append_assoc, arith, length-append}
 use Rattle.std.specs.List.{flat_map, AllByRecursion as All}
 use Rattle.std.proofs.lemmas.Fmt.{decimal_injective, length-decimal-le}
 use Rattle.std.proofs.ByRecursion.{All-append}
-use Rattle.money.specs.Amounts.{IsCode, places, amount_text, Amount, Short}
-use Rattle.money.proofs.Codes.{places_small}
+use Rattle.money.specs.Amounts.{amount_text, Amount}
 use Rattle.money.proofs.Texts.{high_decimal, high_amount, lacks_high, amount_short, amount_same}
 use Rattle.imports.specs.declared.fault.LineFault.{LineFault}
 use Rattle.imports.specs.declared.posting.Posting.{Posting}
 use Rattle.imports.specs.declared.posting.Posting.TheVariants.{Post, Transfer}
-use Rattle.imports.specs.Texts.{most_in_line, header, row, line, written, InRange, Stands, Unambiguous}
+use Rattle.imports.specs.Texts.{most_in_line, row, line, InRange}
 use Rattle.money.specs.Fields.{Lacks}
-use Rattle.imports.specs.Lines.{Row, rows, Fields, heading, post, transfer, parted, Whole, HasFields, NamesCode, IsPosting, BadCell, OneCell, AmountField, First, code_faults, row_faults, line_faults, faults_after, Faulty}
+use Rattle.imports.specs.Lines.{Row, rows, Fields, post, transfer, parted, Whole, IsPosting, BadCell, OneCell, AmountField, First, row_faults, line_faults}
 use Rattle.imports.proofs.Cuts.{same_fields}
 use Rattle.imports.proofs.FirstRow.{good_end}
 use Rattle.imports.proofs.Ladders.{no_fault, SoundAmount}

@@ -1,5 +1,5 @@
 -- Import text, by its writing: which bytes stand for a list of postings in a currency, and what such a list reaches.
-use Rattle.std.specs.Prelude.{◌≡◌, ℕ, ◌+◌, ◌<◌, ◌≤◌, max, List, [], ◌∷◌, ◌++◌, length, decimal, ◌≢◌}
+use Rattle.std.specs.Prelude.{◌≡◌, ℕ, ◌+◌, ◌≤◌, max, List, [], ◌∷◌, ◌++◌, length, decimal, ◌≢◌}
 use Rattle.std.specs.List.{flat_map, AllByRecursion as All}
 use Rattle.money.specs.Amounts.{IsCode, places, amount_text, Amount}
 use Rattle.imports.specs.declared.posting.Posting.{Posting}

@@ -1,4 +1,6 @@
 // Import text: the check that admits it or names a faulty line, and the postings that an admitted text stands for.
+#![tactic(auto)]
+
 mod checked;
 mod checking;
 mod cursor;

@@ -1,22 +1,20 @@
 use Rattle.std.proofs.Common.{◌≡◌, ◌+◌, [], ◌∷◌, ◌++◌, length, drop, ap, ◌∙◌, arith}
 use Rattle.std.proofs.lemmas.Result.{err_from_is_err_and, MatchResult-weaker}
-use Rattle.money.specs.Amounts.{IsCode}
 use Rattle.imports.specs.Lines.{code_faults}
-use Rattle.imports.specs.Texts.{header}
 use Rattle.imports.proofs.FirstRow.{end_fault, said_fault}
 use Rattle.imports.proofs.read.read_header.Goals as goal
 
-pub returns-in-err-row : goal.returns-in-err-row
-returns-in-err-row c =
-    let p = err_from_is_err_and c.from-residual.result c.from-residual.ensures.1 in
-    rw (p.1, p.2) (end_fault code_faults c.args.text.now c.in-err-row.field-0.0 c.in-err-row.ensures)
+pub returns-in_err-row : goal.returns-in_err-row
+returns-in_err-row c =
+    let p = err_from_is_err_and c.from_residual.result c.from_residual.ensures.1 in
+    rw (p.1, p.2) (end_fault code_faults c.args.text.now c.in_err-row.field-0.0 c.in_err-row.ensures)
 
 pub returns : goal.returns
 returns c =
-    let row = c.in-ok-row.ensures in
-    let bytes = c.in-ok-row.row.now in
+    let row = c.in_ok-row.ensures in
+    let bytes = c.in_ok-row.row.now in
     let text = c.args.text.now in
-    MatchResult-weaker c.read-heading.result c.read-heading.ensures
+    MatchResult-weaker c.read_heading.result c.read_heading.ensures
     (λ code h.
     let long : length bytes + 1 ≡ 6 = omega (arith, ap length h.1, h.0.0) in
     (h.0, row.2 ∙ (λ i. (h.1 i ++ 10 ∷ []) ++ drop (long i) text)))

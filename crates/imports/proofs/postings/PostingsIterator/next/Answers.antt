@@ -1,4 +1,4 @@
-use Rattle.std.proofs.Common.{◌+◌, ◌-◌, ◌≤◌, length, take, drop, refl, subst, arith, rules}
+use Rattle.std.proofs.Common.{◌+◌, ◌≤◌, length, drop, refl, subst, arith, rules}
 use Rattle.std.proofs.lemmas.List.{take_rest}
 use Rattle.money.specs.Amounts.{places}
 use Rattle.money.proofs.Codes.{places_small}
@@ -26,8 +26,8 @@ within : (c : In-Ok) → c.args.self.now.at + c.in-Ok.used ≤ length c.args.sel
 within c =
     begins_within (places c.args.self.now.code.letters) c.args.self.now.text.now c.args.self.now.at c.in-Ok.used c.in-Ok.posting (omega arith) (read c)
 
-pub overflow-add-self : goal.overflow-add-self
-overflow-add-self c = let end = within (goal.at.overflow-add-self c).In-Ok in search rules
+pub overflow_add-self : goal.overflow_add-self
+overflow_add-self c = let end = within (goal.at.overflow_add-self c).In-Ok in search rules
 
 pub returns-in-Ok : goal.returns-in-Ok
 returns-in-Ok c =
