@@ -1,11 +1,10 @@
 -- A body that follows a plan does alone what the plan says. Assumes nothing.
-use Rattle.std.proofs.Common.{◌≡◌, ℕ, zero, suc, ◌<◌, ◌≤◌, List, [], ◌∷◌, get_or, set, ℤ, pos, sym, refl, ap, ◌∙◌, subst, arith}
+use Rattle.std.proofs.Common.{◌≡◌, ℕ, zero, suc, ◌<◌, ◌≤◌, List, get_or, set, ℤ, pos, refl, ap, ◌∙◌, subst, arith}
 use Rattle.body.specs.declared.body.Body.{Ghosts}
-use Rattle.body.specs.declared.request.Request.{Request}
-use Rattle.body.specs.declared.request.Request.TheVariants.{Read, Write, End}
+use Rattle.body.specs.declared.request.Request.TheVariants.{Read, Write}
 use Rattle.body.specs.Meaning.{Lawful, ReadTold, WriteTaken}
 use Rattle.body.specs.Plans.{Plan, read, write, end, Done, Follows, run_out, RunsAlone, carried_out}
-use Rattle.body.specs.Serial.{Outcome, given, go, alone}
+use Rattle.body.specs.Serial.{given, go}
 
 module _ {B R : Type 0} (m : Ghosts B) (result : B → R) (law : Lawful m.asks m.told m.taken m.begin m.left m.reach m.len) where
   -- a telling that answers leaves fewer requests

@@ -1,5 +1,5 @@
 -- An import follows the plan of its postings. Assumes nothing.
-use Rattle.std.proofs.Common.{◌≡◌, ℕ, zero, suc, ◌+◌, ◌-◌, ◌^◌, ◌<◌, ◌≤◌, max, Bool, true, false, cond, ◌&&◌, List, [], ◌∷◌, length, drop, ℤ, pos, ◌+ℤ◌, ◌-ℤ◌, nat_abs, Some, None, Option, sym, refl, ap, ◌∙◌, subst, add-one, arith}
+use Rattle.std.proofs.Common.{◌≡◌, ℕ, suc, ◌+◌, ◌<◌, ◌≤◌, Bool, true, false, cond, ◌&&◌, List, [], ◌∷◌, length, drop, ℤ, ◌+ℤ◌, ◌-ℤ◌, nat_abs, Some, None, sym, refl, ap, ◌∙◌, subst, arith}
 use Rattle.std.specs.List.{AllByRecursion as All}
 use Rattle.std.proofs.lemmas.List.{drop-drop}
 use Rattle.std.proofs.lemmas.Int.{ints}
@@ -9,18 +9,17 @@ use Rattle.imports.specs.declared.checked.Checked.{Checked}
 use Rattle.imports.specs.declared.posting.Posting.{Posting}
 use Rattle.imports.specs.declared.posting.Posting.TheVariants.{Post, Transfer}
 use Rattle.imports.specs.Checks.{Tells}
-use Rattle.imports.specs.Texts.{InRange, posting_reach, reach}
+use Rattle.imports.specs.Texts.{InRange, reach}
 use Rattle.body.specs.declared.importing.Import.{Import}
 use Rattle.body.specs.declared.importing.ImportStep.{ImportStep}
 use Rattle.body.specs.declared.importing.ImportStep.TheVariants as steps
-use Rattle.body.specs.declared.request.Request.{Request}
-use Rattle.body.specs.declared.request.Request.TheVariants.{Read, Write, End}
-use Rattle.body.specs.Imports.{post_good, transfer_good, import_plan, import_asks, import_at, import_answered, import_written, import_members, import_reach, took_next, next_line, one_more, skipped, sum64, less64, after_post, after_transfer, after_first, entered}
+use Rattle.body.specs.declared.request.Request.TheVariants.{Read, Write}
+use Rattle.body.specs.Imports.{post_good, transfer_good, import_plan, import_asks, import_at, import_answered, import_written, import_members, took_next, next_line, one_more, skipped, sum64, less64, after_post, after_transfer, entered}
 use Rattle.body.specs.MadeImports.{unposted, MadeImport}
 use Rattle.body.specs.Outcomes.{booked}
-use Rattle.body.specs.Plans.{Plan, read, write, end, Follows, carried_out}
+use Rattle.body.specs.Plans.{Plan, read, write, Follows, carried_out}
 use Rattle.body.specs.Reading.{postings, postings_are}
-use Rattle.body.specs.Tests.{kept, within_limit, on_read, on_write}
+use Rattle.body.specs.Tests.{within_limit, on_read, on_write}
 use Rattle.body.proofs.Alone.{runs_alone, runs_as}
 use Rattle.body.proofs.Doing.{does_import}
 use Rattle.body.specs.Imported.{next_checked, import_lawful}

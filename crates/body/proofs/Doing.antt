@@ -1,5 +1,5 @@
 -- What the plans do when they are carried out alone. Assumes nothing.
-use Rattle.std.proofs.Common.{◌≡◌, ℕ, zero, suc, ◌+◌, ◌-◌, ◌<◌, ◌≤◌, Bool, true, false, cond, ◌&&◌, List, [], ◌∷◌, ◌++◌, length, get_or, take, drop, set, ℤ, pos, ◌+ℤ◌, ◌-ℤ◌, sym, refl, ap, ◌∙◌, subst, add-one, arith}
+use Rattle.std.proofs.Common.{◌≡◌, ℕ, zero, suc, ◌+◌, ◌-◌, ◌<◌, ◌≤◌, Bool, true, false, cond, ◌&&◌, List, [], ◌∷◌, length, get_or, take, drop, set, ℤ, pos, ◌+ℤ◌, ◌-ℤ◌, sym, refl, ap, ◌∙◌, add-one, arith}
 use Rattle.std.proofs.lemmas.List.{drop_more}
 use Rattle.std.proofs.lemmas.Int.{ints}
 use Rattle.imports.specs.declared.posting.Posting.{Posting}
@@ -7,12 +7,12 @@ use Rattle.imports.specs.declared.posting.Posting.TheVariants.{Post, Transfer}
 use Rattle.body.specs.declared.steps.ScriptStep.{ScriptStep}
 use Rattle.body.specs.declared.steps.ScriptStep.TheVariants as steps
 use Rattle.body.specs.Imports.{post_good, transfer_good, import_plan}
-use Rattle.body.specs.Outcomes.{amount_in, can_book, booked_one, booked, handed_of, all_within_limit, sum_of, range, totalled, scripted}
-use Rattle.body.specs.Plans.{Plan, read, write, end, Done, carried_out}
+use Rattle.body.specs.Outcomes.{booked, handed_of, all_within_limit, sum_of, range, totalled, scripted}
+use Rattle.body.specs.Plans.{write, end, carried_out}
 use Rattle.body.specs.Scripts.{script_plan}
 use Rattle.body.specs.Serial.{Outcome, given}
 use Rattle.body.specs.Tests.{within_limit}
-use Rattle.body.specs.Totals.{summed, sum_written, total_plan}
+use Rattle.body.specs.Totals.{summed, total_plan}
 
 booked_outcome : (ps : List Posting) (n : ℕ) (cells : List ℤ) → (carried_out (import_plan ps n) cells).outcome ≡ (booked ps cells).outcome
 booked_outcome [] n cells = refl

@@ -1,10 +1,10 @@
 -- The next line of an import's text. Assumes nothing.
-use Rattle.std.proofs.Common.{◌≡◌, ℕ, zero, suc, ◌+◌, ◌-◌, ◌^◌, ◌<◌, ◌≤◌, List, [], ◌∷◌, ◌++◌, length, take, drop, Some, None, vec_items, Option, sym, refl, ap, ◌∙◌, subst, ⊎_elim, arith, length-append, length-drop}
+use Rattle.std.proofs.Common.{◌≡◌, ℕ, zero, suc, ◌+◌, ◌-◌, ◌<◌, ◌≤◌, List, [], ◌∷◌, ◌++◌, length, take, drop, Some, None, vec_items, Option, sym, refl, ap, ◌∙◌, subst, ⊎_elim, arith, length-append, length-drop}
 use mathlib.Core.HLevel.{×_prop}
 use mathlib.Core.Logic.{∥∥₁_elim}
 use native.Mathlib.Nat.{ℕ_set}
 use base.Stored.{Coded-set}
-use Rattle.std.specs.List.{flat_map, AllByRecursion as All}
+use Rattle.std.specs.List.{flat_map}
 use Rattle.std.proofs.ByRecursion.{All-drop}
 use Rattle.std.proofs.lemmas.List.{drop_all, drop-drop, take-append-drop, drop_at, append_assoc}
 use Rattle.std.proofs.lemmas.Bool.{cases_lt}
@@ -16,12 +16,11 @@ use Rattle.imports.specs.declared.cursor.Postings.{Postings}
 use Rattle.imports.specs.declared.posting.Posting.{Posting}
 use Rattle.imports.specs.Checks.{Tells}
 use Rattle.imports.specs.Cursors.{Takes, Ahead}
-use Rattle.imports.specs.Texts.{line, header, written, InRange, Stands}
+use Rattle.imports.specs.Texts.{line, header, InRange}
 use Rattle.imports.specs.Totals.{Left, Gives}
 use Rattle.imports.proofs.Taking.{ahead, takes_gives, left_same}
 use Rattle.imports.proofs.Sofar.{line_some}
 use Rattle.body.specs.declared.importing.Import.{Import}
-use Rattle.body.specs.declared.importing.ImportStep.{ImportStep}
 use Rattle.body.specs.declared.importing.ImportStep.TheVariants as steps
 use Rattle.body.specs.Imports.{LineRead, LineReads, took_next, next_line}
 use Rattle.body.specs.Reading.{postings, postings_told, place}

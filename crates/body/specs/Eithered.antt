@@ -1,11 +1,11 @@
 -- One of two kinds of body is a body. Assumes nothing.
-use Rattle.std.specs.Prelude.{◌≡◌, ℕ, ◌<◌, ℤ, refl}
+use Rattle.std.specs.Prelude.{◌≡◌, ℕ, ℤ, refl}
 use Rattle.std.proofs.Common.{ap}
 use Rattle.body.specs.declared.request.Request.{Request}
 use Rattle.body.specs.declared.request.Request.TheVariants.{Read, Write, End}
 use Rattle.body.specs.declared.either.Either.{Either}
 use Rattle.body.specs.declared.either.Either.TheVariants.{Left, Right}
-use Rattle.body.specs.Meaning.{Lawful, Proper, Same, ReadTold, WriteTaken}
+use Rattle.body.specs.Meaning.{Lawful, Same, ReadTold, WriteTaken}
 use Rattle.body.specs.Eithers.{either_of, both_of}
 
 module _ {A X : Type 0} (f : A → X) (l : A → ℕ) (l' : X → ℕ) (same : (a : A) → l' (f a) ≡ l a) where

@@ -1,6 +1,6 @@
 -- The laws of a body that asks only what keeps them, and counts down. Assumes nothing.
-use Rattle.std.specs.Prelude.{◌≡◌, ℕ, ◌<◌, ◌≤◌, Bool, true, false, cond, ◌&&◌, ℤ, nat_lt, refl}
-use Rattle.std.proofs.Common.{sym, ap, subst, ◌∙◌, arith}
+use Rattle.std.specs.Prelude.{◌≡◌, ℕ, ◌<◌, ◌≤◌, ◌&&◌, ℤ, nat_lt, refl}
+use Rattle.std.proofs.Common.{ap, arith}
 use Rattle.std.proofs.lemmas.Bool.{ltb-true, leb-true, and_parts, cond_both}
 use Rattle.body.specs.declared.request.Request.{Request}
 use Rattle.body.specs.declared.request.Request.TheVariants.{Read, Write, End}

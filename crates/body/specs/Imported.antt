@@ -1,23 +1,21 @@
 -- An import keeps the laws. Assumes nothing.
-use Rattle.std.specs.Prelude.{◌≡◌, ℕ, zero, suc, ◌+◌, ◌-◌, ◌<◌, ◌≤◌, Bool, true, false, cond, ◌&&◌, List, [], ◌∷◌, length, drop, ℤ, pos, Some, None, Option, ◌≢◌, refl}
-use Rattle.std.proofs.Common.{sym, ap, subst, ◌∙◌, arith}
+use Rattle.std.specs.Prelude.{◌≡◌, ℕ, ◌+◌, ◌<◌, Bool, true, false, cond, ◌&&◌, List, [], ◌∷◌, drop, ℤ, Some, None, Option, ◌≢◌, refl}
+use Rattle.std.proofs.Common.{sym, ap, ◌∙◌, arith}
 use Rattle.std.proofs.Math.Logic.{∥∥₁_elim}
 use Rattle.std.proofs.Math.Nat.{ℕ_set}
 use Rattle.std.proofs.lemmas.List.{drop-drop}
-use Rattle.std.proofs.lemmas.Bool.{cond_both}
 use Rattle.imports.specs.declared.checked.Checked.{Checked}
 use Rattle.imports.specs.declared.posting.Posting.{Posting}
 use Rattle.imports.specs.declared.posting.Posting.TheVariants.{Post, Transfer}
-use Rattle.imports.specs.Texts.{posting_length, total_length}
+use Rattle.imports.specs.Texts.{total_length}
 use Rattle.body.specs.declared.importing.Import.{Import}
 use Rattle.body.specs.declared.importing.ImportStep.{ImportStep}
 use Rattle.body.specs.declared.importing.ImportStep.TheVariants as steps
-use Rattle.body.specs.declared.request.Request.{Request}
 use Rattle.body.specs.declared.request.Request.TheVariants.{Read, Write, End}
-use Rattle.body.specs.Imports.{import_step_asks, import_reach, import_at, took_next, next_line, one_more, skipped, sum64, less64, after_post, after_transfer, entered, after_first, import_answered, import_written, import_asks, import_told, import_taken, import_begin, pending, import_weight, import_left, import_len, posting_asks}
+use Rattle.body.specs.Imports.{import_step_asks, import_reach, took_next, next_line, one_more, skipped, sum64, less64, after_post, after_transfer, entered, import_answered, import_written, import_asks, import_told, import_taken, import_begin, pending, import_weight, import_left, import_len}
 use Rattle.body.specs.Meaning.{Lawful, Same}
 use mathlib.Core.HLevel.{is_prop→PathP}
-use Rattle.body.specs.Reading.{postings, postings_are, postings_told, place}
+use Rattle.body.specs.Reading.{postings, postings_told, place}
 use Rattle.body.specs.Tests.{kept, within_limit}
 use Rattle.body.specs.Guarded.{Counts, lawful}
 

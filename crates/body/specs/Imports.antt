@@ -1,5 +1,5 @@
 -- An import: books its postings in order.
-use Rattle.std.specs.Prelude.{◌≡◌, ℕ, suc, ◌+◌, ◌-◌, ◌^◌, min, Bool, cond, ◌&&◌, List, [], ◌∷◌, length, drop, ℤ, pos, ◌+ℤ◌, ◌-ℤ◌, Some, None, Option, refl}
+use Rattle.std.specs.Prelude.{◌≡◌, ℕ, suc, ◌+◌, ◌-◌, ◌^◌, min, Bool, cond, ◌&&◌, List, [], ◌∷◌, drop, ℤ, ◌+ℤ◌, ◌-ℤ◌, Some, None, Option, refl}
 use Rattle.std.specs.Int.{saturate_to_bits}
 use Rattle.imports.specs.declared.checked.Checked.{Checked}
 use Rattle.imports.specs.declared.posting.Posting.{Posting}

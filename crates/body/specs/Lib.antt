@@ -14,3 +14,4 @@ pub mod Eithered
 pub mod Imported
 pub mod Guarded
 pub mod Scripted
+pub mod TotalLaws

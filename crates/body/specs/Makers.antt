@@ -1,5 +1,5 @@
 -- What the makers of totals and scripts promise: the plan that the body follows from its start on, and what it does alone.
-use Rattle.std.specs.Prelude.{◌≡◌, ℕ, suc, ◌+◌, ◌-◌, ◌<◌, ◌≤◌, max, List, [], ◌∷◌, length, ℤ, pos, Result, MatchResult}
+use Rattle.std.specs.Prelude.{◌≡◌, ℕ, ◌+◌, ◌-◌, ◌<◌, ◌≤◌, max, List, [], ◌∷◌, length, ℤ, pos, Result, MatchResult}
 use Rattle.std.specs.List.{AllByRecursion as All}
 use Rattle.body.specs.declared.body.Body.{Ghosts}
 use Rattle.body.specs.declared.steps.Script.{Script}

@@ -1,7 +1,6 @@
 -- What a body does, whatever amounts it is told: the tree of its requests.
-use Rattle.std.specs.Prelude.{◌≡◌, ℕ, zero, suc, List, [], ◌∷◌, ℤ, pos, slice_index_or, slice_set}
+use Rattle.std.specs.Prelude.{◌≡◌, ℕ, zero, suc, List, [], ℤ, pos, slice_index_or, slice_set}
 use Rattle.body.specs.declared.body.Body.{Ghosts}
-use Rattle.body.specs.declared.request.Request.{Request}
 use Rattle.body.specs.declared.request.Request.TheVariants.{Read, Write, End}
 use Rattle.body.specs.Serial.{Outcome, given, alone}
 

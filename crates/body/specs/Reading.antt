@@ -1,5 +1,5 @@
 -- The postings of a checked import. Its text stands for one list only, so there is just one answer.
-use Rattle.std.specs.Prelude.{◌≡◌, ℕ, ◌+◌, List, length, take, vec_items}
+use Rattle.std.specs.Prelude.{◌≡◌, ℕ, ◌+◌, List, length, take}
 use mathlib.Core.HLevel.{Σ_prop_path}
 use mathlib.Core.List.{is_set}
 use Rattle.std.proofs.Math.Logic.{∥∥₁_elim, ∥∥₁_prop}

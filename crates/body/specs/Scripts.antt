@@ -1,5 +1,5 @@
 -- A script: reads cells, puts fixed amounts into cells, and carries the amount read last to cells.
-use Rattle.std.specs.Prelude.{◌≡◌, ℕ, ◌+◌, ◌-◌, Bool, cond, ◌&&◌, ltb, List, [], ◌∷◌, length, drop, ℤ, pos, vec_items}
+use Rattle.std.specs.Prelude.{ℕ, ◌+◌, ◌-◌, cond, List, [], ◌∷◌, length, drop, ℤ, pos, vec_items}
 use Rattle.body.specs.declared.body.Body.{Ghosts}
 use Rattle.body.specs.declared.request.Request.{Request}
 use Rattle.body.specs.declared.request.Request.TheVariants as requests

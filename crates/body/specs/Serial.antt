@@ -1,7 +1,6 @@
 -- The serial run: committed transactions one at a time, each alone on the cells.
 use Rattle.std.specs.Prelude.{◌≡◌, ℕ, zero, suc, cond, List, [], ◌∷◌, ℤ, pos, nat_le, slice_index_or, slice_set}
 use Rattle.body.specs.declared.body.Body.{Ghosts}
-use Rattle.body.specs.declared.request.Request.{Request}
 use Rattle.body.specs.declared.request.Request.TheVariants.{Read, Write, End}
 
 -- What a transaction was handed, in order, and the cells that it leaves.

@@ -1,7 +1,6 @@
 -- A total: reads a first to a last cell in order and writes their sum to a target.
-use Rattle.std.specs.Prelude.{◌≡◌, ℕ, zero, suc, ◌+◌, ◌-◌, ◌<◌, ◌≤◌, max, Bool, cond, ◌⊎◌, List, [], ◌∷◌, ℤ, pos, ◌+ℤ◌, nat_le, nat_lt}
+use Rattle.std.specs.Prelude.{ℕ, zero, suc, ◌+◌, ◌-◌, max, cond, ℤ, pos, ◌+ℤ◌, nat_le, nat_lt}
 use Rattle.std.specs.Int.{saturate_to_bits}
-use Rattle.money.specs.Amounts.{limit}
 use Rattle.body.specs.declared.body.Body.{Ghosts}
 use Rattle.body.specs.declared.request.Request.{Request}
 use Rattle.body.specs.declared.request.Request.TheVariants as requests

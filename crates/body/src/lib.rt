@@ -1,4 +1,6 @@
 // Transaction bodies: what the engine may know of one, and the kinds that there are.
+#![tactic(auto)]
+
 mod body;
 mod either;
 mod import_body;

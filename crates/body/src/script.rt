@@ -1,8 +1,7 @@
 // A script is a body: it asks for its steps one by one.
 ghost use Rattle.std.specs.Prelude.{◌≡◌};
 ghost use Rattle.body.specs.Scripts.{script_asks, script_begin, script_left, script_len, script_reach, script_taken, script_told, step_asks};
-ghost use Rattle.body.specs.Guarded;
-ghost use Rattle.body.specs.Scripted.{counts};
+ghost use Rattle.body.specs.Scripted.{script_lawful};
 
 use super::body::Body;
 use super::request::Request;
@@ -27,7 +26,7 @@ impl Body for Script {
 
     ghost kind = { 3 };
 
-    ghost lawful = { Guarded.lawful _ _ _ _ _ _ _ counts };
+    ghost lawful = { script_lawful };
 
     fn request(&self) -> Request {
         if self.done >= self.steps.len() {

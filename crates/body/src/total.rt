@@ -1,7 +1,7 @@
 // A total is a body: it reads its range in order and writes the sum.
 ghost use Rattle.std.specs.Prelude.{◌≡◌};
 ghost use Rattle.body.specs.Totals.{sum_known, sum_told, total_asks, total_begin, total_left, total_len, total_reach, total_taken, total_told};
-ghost use Rattle.std.proofs.Common.{rules};
+ghost use Rattle.body.specs.TotalLaws.{total_lawful};
 
 use super::body::Body;
 use super::request::{Request, is_within};
@@ -26,7 +26,7 @@ impl Body for Total {
 
     ghost kind = { 2 };
 
-    ghost lawful = { Prim.search rules };
+    ghost lawful = { total_lawful };
 
     fn request(&self) -> Request {
         match self.step {

@@ -5,6 +5,6 @@ use Rattle.body.proofs.importing.Import.read_line.Goals as goal
 
 pub returns : goal.returns
 returns c =
-    let from = c.postings-from-postings.ensures in
+    let from = c.postings_from-postings.ensures in
     subst (LineRead c.args.self.now c.next-line.result) (sym c.place.ensures)
-    (line_read c.args.self.now c.postings-from-postings.result c.next-line.new.self c.next-line.result from.text from.code from.at c.next-line.ensures.steps)
+    (line_read c.args.self.now c.postings_from-postings.result c.next-line.new.self c.next-line.result from.text from.code from.at c.next-line.ensures.steps)

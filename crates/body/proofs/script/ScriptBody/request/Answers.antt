@@ -1,4 +1,4 @@
-use Rattle.std.proofs.Common.{◌≡◌, ◌<◌, ◌≤◌, length, drop, vec_items, sym, ap, ◌∙◌, arith, w64, SFits, rules}
+use Rattle.std.proofs.Common.{◌<◌, ◌≤◌, length, vec_items, sym, ap, ◌∙◌, arith, w64, SFits, rules}
 use Rattle.std.proofs.lemmas.List.{drop_all, drop_more}
 use Rattle.std.proofs.lemmas.Int.{to_z-of_z}
 use Rattle.body.specs.Scripts.{steps_ask, step_asks}
@@ -19,5 +19,5 @@ returns c =
     let x = c.index.result.now in
     let here : s.done < length items = omega (arith, c.if-self-len.false, c.len.ensures, s.steps.ok.0) in
     let fits : SFits w64 s.carried = search rules in
-    let step = c.step-request.ensures ∙ (λ i. step_asks (to_z-of_z w64 s.carried fits i) (c.index.ensures i)) in
+    let step = c.step_request.ensures ∙ (λ i. step_asks (to_z-of_z w64 s.carried fits i) (c.index.ensures i)) in
     c.kept.ensures ∙ ap (kept s.reach) (step ∙ ap (steps_ask s.carried) (sym (drop_more items s.done x here)))

@@ -1,4 +1,4 @@
-use Rattle.std.proofs.Common.{◌≡◌, pos, vec_items, sym, refl, arith}
+use Rattle.std.proofs.Common.{pos, vec_items, refl, arith}
 use Rattle.body.specs.Makers.{no_result}
 use Rattle.body.specs.Outcomes.{scripted}
 use Rattle.body.specs.Plans.{carried_out}
@@ -11,9 +11,9 @@ use Rattle.body.proofs.steps.Script.new.Goals as goal
 pub returns : goal.returns
 returns c =
     let plan = script_plan (vec_items c.args.steps) (pos 0) in
-    let told = rw c.as-slice.ensures.value at c.in-Some.ensures in
+    let told = rw c.as_slice.ensures.value at c.in-Some.ensures in
     let follows = follows_script (record { steps = c.args.steps; reach = c.in-Some.reach; done = 0; carried = pos 0 }) told.0 told.1 in (
-      omega (arith, c.if-len-gt-MOST-STEPS.false, c.len.ensures, c.args.steps.ok.0),
+      omega (arith, c.if-len-gt-MOST_STEPS.false, c.len.ensures, c.args.steps.ok.0),
       told.0,
       record {
         starts = refl;
