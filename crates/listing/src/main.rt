@@ -1,4 +1,6 @@
 // Lists the import text on standard input.
+#![tactic(auto)]
+
 use input::read_at_most;
 use listings::listing;
 use std::io::Write;

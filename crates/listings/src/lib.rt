@@ -1,4 +1,6 @@
 // Lists an import text: a line for each posting and one for what they come to, or one line that names the fault.
+#![tactic(auto)]
+
 ghost use Rattle.std.specs.Prelude.{◌≡◌, List, ◌++◌, IfOk, string_bytes, OnOk};
 ghost use Rattle.imports.specs.declared.posting.Posting.{Posting};
 ghost use Rattle.imports.specs.Checks.{Tells};
@@ -36,9 +38,10 @@ fn list_posting(out: &mut String, posting: Posting) -> fmt::Result
     ensures { OnOk result (string_bytes out.new ≡ string_bytes out.old ++ posting_line posting) }
 {
     match posting {
-        Posting::Post { cell, amount } => write!(out, "P\t{cell}\t{amount}\n"),
-        Posting::Transfer { from, to, amount } => write!(out, "T\t{from}\t{to}\t{amount}\n"),
+        Posting::Post { cell, amount } => write!(out, "P\t{cell}\t{amount}\n")?,
+        Posting::Transfer { from, to, amount } => write!(out, "T\t{from}\t{to}\t{amount}\n")?,
     }
+    Ok(())
 }
 
 // The line for a refused text.

@@ -1,7 +1,5 @@
-use Rattle.std.proofs.Common.{◌≡◌, ℕ, List, [], ◌∷◌, ◌++◌, string_bytes, decimal, sym, refl, ap, ◌∙◌, subst}
-use Rattle.std.specs.List.{flat_map}
+use Rattle.std.proofs.Common.{[], ◌∷◌, ◌++◌, decimal, sym, refl, ◌∙◌, subst}
 use Rattle.imports.specs.Cursors.{Ahead}
-use Rattle.listings.specs.Listings.{posting_line, listed}
 use Rattle.listings.proofs.Turns.{Sofar, one_more, no_more}
 use Rattle.listings.proofs.list.Goals as goal
 
@@ -10,13 +8,13 @@ loop-posting-init c ps told = record {
   before = [];
   after = ps;
   all = refl;
-  ahead = subst (λ s. Ahead s ps) (sym c.into-iter-posting-iterator.ensures.into-iter-gives) (c.postings-posting-items.ensures ps told);
+  ahead = subst (λ s. Ahead s ps) (sym c.into_iter-posting-iterator.ensures.into_iter_gives) (c.postings-posting-items.ensures ps told);
   shown = c.new-out.ensures.bytes;
 }
 
 pub loop-posting-preserved : goal.loop-posting-preserved
 loop-posting-preserved c ps told =
-    subst (Sofar ps c.next.new.self) (sym c.in-ok-list-posting.ensures)
+    subst (Sofar ps c.next.new.self) (sym c.in_ok-list_posting.ensures)
     (one_more ps c.loop-posting.posting-iterator c.next.new.self _ _ (c.loop-posting.invariant ps told) c.in-Some.ensures.steps)
 
 pub returns : goal.returns
@@ -25,5 +23,5 @@ returns c ps told =
     let count = c.count-count.ensures.told ps told in
     let reach = c.reach-reach.ensures.told ps told in
     let length = c.length-length.ensures.told ps told in
-    c.in-ok-write.ensures.bytes
+    c.in_ok-write.ensures.bytes
     ∙ (λ i. shown i ++ 76 ∷ 9 ∷ (decimal (count i) ++ 9 ∷ (decimal (reach i) ++ 9 ∷ (decimal (length i) ++ 10 ∷ []))))
