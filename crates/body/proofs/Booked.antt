@@ -1,6 +1,6 @@
 -- An import follows the plan of its postings. Assumes nothing.
 use Rattle.std.proofs.Common.{◌≡◌, ℕ, suc, ◌+◌, ◌<◌, ◌≤◌, Bool, true, false, cond, ◌&&◌, List, [], ◌∷◌, length, drop, ℤ, ◌+ℤ◌, ◌-ℤ◌, nat_abs, Some, None, sym, refl, ap, ◌∙◌, subst, arith}
-use Rattle.std.specs.List.{AllByRecursion as All}
+use Rattle.std.specs.List.{AllByRecursion}
 use Rattle.std.proofs.lemmas.List.{drop-drop}
 use Rattle.std.proofs.lemmas.Int.{ints}
 use Rattle.std.proofs.lemmas.Bool.{leb-true, and_parts}
@@ -99,7 +99,7 @@ module _ (i : Checked) where
             writes (state (steps.WriteBoth f (x -ℤ a) t (y +ℤ a))) f (x -ℤ a) (write t (y +ℤ a) (import_plan ps u)) (kept_write i.totals.reach f (x -ℤ a) low new.0) (last t (y +ℤ a) next new.1)
         at false e = skips
 
-  pub follows_lines : (ps : List Posting) (n u : ℕ) → drop n (postings i) ≡ ps → All (Bookable i.totals.reach) ps → u + length ps ≤ 32768 → At (import_plan ps u) (took_next i n u ps)
+  pub follows_lines : (ps : List Posting) (n u : ℕ) → drop n (postings i) ≡ ps → AllByRecursion (Bookable i.totals.reach) ps → u + length ps ≤ 32768 → At (import_plan ps u) (took_next i n u ps)
   follows_lines [] n u e h few = (refl, refl)
   follows_lines (Post c a ∷ qs) n u e h few =
       let after = sym (drop-drop 1 n (postings i)) ∙ ap (drop 1) e in
@@ -114,7 +114,7 @@ module _ (i : Checked) where
       (λ y. transfers (n + 1) u qs more (omega arith) f t a x y h.0.0 h.0.1 h.0.2))
 
 -- postings in range can be booked
-pub bookable : (k top : ℕ) (ps : List Posting) → All (InRange k) ps → reach ps ≤ top → All (Bookable top) ps
+pub bookable : (k top : ℕ) (ps : List Posting) → AllByRecursion (InRange k) ps → reach ps ≤ top → AllByRecursion (Bookable top) ps
 bookable k top [] h le = tt
 bookable k top (Post c a ∷ ps) h le = ((omega arith, h.0.1.1), bookable k top ps h.1 (omega arith))
 bookable k top (Transfer f t a ∷ ps) h le = ((omega arith, omega arith, h.0.3.1), bookable k top ps h.1 (omega arith))

@@ -1,6 +1,6 @@
 -- What the makers of totals and scripts promise: the plan that the body follows from its start on, and what it does alone.
 use Rattle.std.specs.Prelude.{◌≡◌, ℕ, ◌+◌, ◌-◌, ◌<◌, ◌≤◌, max, List, [], ◌∷◌, length, ℤ, pos, Result, MatchResult}
-use Rattle.std.specs.List.{AllByRecursion as All}
+use Rattle.std.specs.List.{AllByRecursion}
 use Rattle.body.specs.declared.body.Body.{Ghosts}
 use Rattle.body.specs.declared.steps.Script.{Script}
 use Rattle.body.specs.declared.steps.ScriptRefusal.{ScriptRefusal}
@@ -67,12 +67,12 @@ most_steps = 16
 
 abbrev pub ScriptRefused : List ScriptStep → ScriptRefusal → Type 0
 ScriptRefused steps TooMany = most_steps < length steps
-ScriptRefused steps BadStep = (length steps ≤ most_steps) × (All SoundStep steps → ⊥)
+ScriptRefused steps BadStep = (length steps ≤ most_steps) × (AllByRecursion SoundStep steps → ⊥)
 
 abbrev pub MakesScript : List ScriptStep → Result Script ScriptRefusal → Type 0
 MakesScript steps r =
     MatchResult r
-    (λ s. (length steps ≤ most_steps) × All SoundStep steps × Made script_members no_result (script_plan steps (pos 0)) (scripted steps (pos 0)) (steps_reach steps) (length steps) s)
+    (λ s. (length steps ≤ most_steps) × AllByRecursion SoundStep steps × Made script_members no_result (script_plan steps (pos 0)) (scripted steps (pos 0)) (steps_reach steps) (length steps) s)
     (ScriptRefused steps)
 
 abbrev pub script_refusal_number : ScriptRefusal → ℕ

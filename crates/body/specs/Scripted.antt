@@ -1,7 +1,7 @@
 -- A script keeps the laws, and follows its plan. Assumes nothing.
 use Rattle.std.specs.Prelude.{◌≡◌, ℕ, ◌+◌, ◌-◌, ◌<◌, ◌≤◌, max, Bool, true, false, cond, List, [], ◌∷◌, ◌++◌, length, drop, ℤ, pos, vec_items, ◌≢◌, nat_lt, unsigned_abs, refl}
 use Rattle.std.proofs.Common.{sym, ap, subst, ◌∙◌, ⊎_elim, arith}
-use Rattle.std.specs.List.{AllByRecursion as All}
+use Rattle.std.specs.List.{AllByRecursion}
 use Rattle.std.proofs.lemmas.List.{drop_all, drop-drop}
 use Rattle.std.proofs.lemmas.Bool.{cases_lt, lt-ltb, le-leb, and_from, and_right}
 use Rattle.money.specs.Amounts.{limit}
@@ -51,7 +51,7 @@ reach_push (s ∷ ss) x = omega (arith, reach_push ss x)
 abbrev Below : ℕ → ScriptStep → Type 0
 Below reach s = SoundStep s × (step_reach s ≤ reach)
 
-below_all : (reach : ℕ) (ss : List ScriptStep) → All SoundStep ss → steps_reach ss ≤ reach → All (Below reach) ss
+below_all : (reach : ℕ) (ss : List ScriptStep) → AllByRecursion SoundStep ss → steps_reach ss ≤ reach → AllByRecursion (Below reach) ss
 below_all reach [] h le = tt
 below_all reach (s ∷ ss) h le = ((h.0, omega arith), below_all reach ss h.1 (omega arith))
 
@@ -79,7 +79,7 @@ module _ (s : Script) where
   wrote done carried c v p e rest =
       (e, subst (λ r. Follows script_members no_result p (on_write r (script_at s (done + 1) carried) (script_at s done carried))) (sym e) rest)
 
-  pub follows_steps : (ss : List ScriptStep) (done : ℕ) (carried : ℤ) → drop done (vec_items s.steps) ≡ ss → All (Below s.reach) ss → At (script_plan ss carried) done carried
+  pub follows_steps : (ss : List ScriptStep) (done : ℕ) (carried : ℤ) → drop done (vec_items s.steps) ≡ ss → AllByRecursion (Below s.reach) ss → At (script_plan ss carried) done carried
   follows_steps [] done carried e h = (ap (λ l. kept s.reach (steps_ask carried l)) e, refl)
   follows_steps (steps.Read c ∷ ss) done carried e h =
       let ask = asked done carried (steps.Read c) ss (Read c) e (kept_read s.reach c (omega (arith, h.0.1))) in
@@ -98,5 +98,5 @@ module _ (s : Script) where
       carry false w rest = (asked done carried (steps.Carry c) ss End e (kept_beyond s.reach c carried w), refl)
 
 -- a script whose steps are sound follows its plan from its start on
-pub follows_script : (s : Script) → All SoundStep (vec_items s.steps) → s.reach ≡ steps_reach (vec_items s.steps) → Follows script_members no_result (script_plan (vec_items s.steps) (pos 0)) (script_begin s)
+pub follows_script : (s : Script) → AllByRecursion SoundStep (vec_items s.steps) → s.reach ≡ steps_reach (vec_items s.steps) → Follows script_members no_result (script_plan (vec_items s.steps) (pos 0)) (script_begin s)
 follows_script s sound is = follows_steps s (vec_items s.steps) 0 (pos 0) refl (below_all s.reach (vec_items s.steps) sound (omega arith))

@@ -1,6 +1,6 @@
 // Makes totals and scripts, or refuses to.
 ghost use Rattle.std.specs.Prelude.{◌≡◌, MatchOption};
-ghost use Rattle.std.specs.List.{AllByRecursion as All};
+ghost use Rattle.std.specs.List.{AllByRecursion};
 ghost use Rattle.body.specs.Makers.{MakesScript, MakesTotal, SoundStep, script_refusal_number, step_reach, steps_reach, total_refusal_number};
 
 use super::request::is_within;
@@ -71,7 +71,7 @@ impl ScriptRefusal {
 
 // The reach of some steps, if each is sound.
 fn reach_of_steps(steps: &[ScriptStep]) -> Option<u32>
-    ensures { MatchOption result (All SoundStep steps.now → ⊥) (λ n. All SoundStep steps.now × (n ≡ steps_reach steps.now)) }
+    ensures { MatchOption result (AllByRecursion SoundStep steps.now → ⊥) (λ n. AllByRecursion SoundStep steps.now × (n ≡ steps_reach steps.now)) }
 {
     let mut reach = 0;
     for step in steps {

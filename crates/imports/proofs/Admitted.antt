@@ -1,6 +1,6 @@
 -- Admitted and refused texts: no text is both, and no text stands for two lists. Assumes nothing.
 use Rattle.std.proofs.Common.{◌≡◌, ℕ, ◌+◌, ◌<◌, ◌≤◌, List, [], ◌∷◌, ◌++◌, map, length, drop, sym, refl, ap, ◌∙◌, subst, ⊎_elim, append_assoc, append-nil, arith, length-append}
-use Rattle.std.specs.List.{flat_map, AllByRecursion as All}
+use Rattle.std.specs.List.{flat_map, AllByRecursion}
 use Rattle.std.proofs.ByRecursion.{All-weaker}
 use Rattle.std.proofs.lemmas.List.{length-map}
 use Rattle.money.specs.Amounts.{IsCode, places}
@@ -31,7 +31,7 @@ module _ (code : List ℕ) (is : IsCode code) where
       ⊎_elim (λ none. none.0 (heading code, lacks_code 9 (omega arith), refl, is)) (λ no. no.1) rest.1)
 
   -- the lines of a text that begins with these postings
-  pub rows_text : (ps : List Posting) (rest : List ℕ) → All (InRange (places code)) ps → rows (written code ps ++ rest) ≡ ended (header code) ∷ (map (posting_row (places code)) ps ++ rows rest)
+  pub rows_text : (ps : List Posting) (rest : List ℕ) → AllByRecursion (InRange (places code)) ps → rows (written code ps ++ rest) ≡ ended (header code) ∷ (map (posting_row (places code)) ps ++ rows rest)
   rows_text ps rest h =
       let lines = flat_map (line (places code)) ps in
       ap rows (append_assoc (header code ++ 10 ∷ []) lines rest ∙ append_assoc (header code) (10 ∷ []) (lines ++ rest))
@@ -60,12 +60,12 @@ unambiguous text code code' ps ps' s s' =
     let first : ended (header code) ≡ ended (header code') = cc in
     let rest : map (posting_row (places code)) ps ≡ map (posting_row (places code')) ps' = cc in
     let same : code ≡ code' = ap (λ (r : Row). drop 2 r.bytes) first in
-    let ranges = subst (λ c. All (InRange (places c)) ps') (sym same) s'.ranges in
+    let ranges = subst (λ c. AllByRecursion (InRange (places c)) ps') (sym same) s'.ranges in
     let lines = rest ∙ ap (λ c. map (posting_row (places c)) ps') (sym same) in
     (same, same_rows (places code) ps ps' s.ranges ranges lines)
 
 -- a line among those of postings in range has no fault
-among : (k : ℕ) → k ≤ 2 → (ps : List Posting) → All (InRange k) ps → (before : List Row) (here : Row) (after : List Row) → before ++ here ∷ after ≡ map (posting_row k) ps → (fault : LineFault) → First (line_faults (row_faults k) here) fault → ⊥
+among : (k : ℕ) → k ≤ 2 → (ps : List Posting) → AllByRecursion (InRange k) ps → (before : List Row) (here : Row) (after : List Row) → before ++ here ∷ after ≡ map (posting_row k) ps → (fault : LineFault) → First (line_faults (row_faults k) here) fault → ⊥
 among k few [] h [] here after e fault first = let z : ◌≡◌ {A = ℕ} 0 1 = cc in omega arith
 among k few [] h (b ∷ before) here after e fault first = let z : ◌≡◌ {A = ℕ} 0 1 = cc in omega arith
 among k few (p ∷ ps) h [] here after e fault first =
@@ -97,7 +97,7 @@ not_both text code ps (Line faulty) s bad =
     let f = bad.faulty in not_faulty text code ps s f.before f.here f.after f.lines faulty.fault f.first
 
 -- a fault of the first line of what follows some postings is a fault of the text
-module _ (text code rest : List ℕ) (ps : List Posting) (is : IsCode code) (ranges : All (InRange (places code)) ps) (sofar : text ≡ written code ps ++ rest) (fault : LineFault) (bad : FirstRowFault (row_faults (places code)) rest fault) where
+module _ (text code rest : List ℕ) (ps : List Posting) (is : IsCode code) (ranges : AllByRecursion (InRange (places code)) ps) (sofar : text ≡ written code ps ++ rest) (fault : LineFault) (bad : FirstRowFault (row_faults (places code)) rest fault) where
   lines : rows text ≡ ended (header code) ∷ (map (posting_row (places code)) ps ++ rows rest)
   lines = ap rows sofar ∙ rows_text code is ps rest ranges
 

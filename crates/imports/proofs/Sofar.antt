@@ -1,6 +1,6 @@
 -- What the check knows of a text that it has read up to a place. Assumes nothing.
 use Rattle.std.proofs.Common.{◌≡◌, ℕ, ◌+◌, ◌*◌, ◌<◌, ◌≤◌, max, List, [], ◌∷◌, ◌++◌, length, drop, sym, ap, ◌∙◌, subst, append_assoc, append-nil, arith, length-append, length-drop}
-use Rattle.std.specs.List.{AllByRecursion as All}
+use Rattle.std.specs.List.{AllByRecursion}
 use Rattle.std.proofs.ByRecursion.{All-push}
 use Rattle.std.proofs.lemmas.List.{flat_map_more, length_push, drop-drop, drop_all}
 use Rattle.money.specs.Amounts.{IsCode, places}
@@ -14,7 +14,7 @@ use Rattle.imports.proofs.Admitted.{unambiguous}
 pub record Sofar (text code : List ℕ) (at : ℕ) (t : Totals) : Type 0 where
   pub ps : List Posting
   pub currency : IsCode code
-  pub ranges : All (InRange (places code)) ps
+  pub ranges : AllByRecursion (InRange (places code)) ps
   pub sofar : text ≡ written code ps ++ drop at text
   pub within : at ≤ length text
   pub few : length ps ≤ at

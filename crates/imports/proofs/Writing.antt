@@ -1,6 +1,6 @@
 -- The lines of a written text: they have no fault, and no other postings have the same lines. Assumes nothing.
 use Rattle.std.proofs.Common.{◌≡◌, ℕ, ◌<◌, ◌≤◌, List, [], ◌∷◌, ◌++◌, map, length, decimal, sym, refl, ap, ◌∙◌, ⊎_elim, append_assoc, arith, length-append}
-use Rattle.std.specs.List.{flat_map, AllByRecursion as All}
+use Rattle.std.specs.List.{flat_map, AllByRecursion}
 use Rattle.std.proofs.lemmas.Fmt.{decimal_injective, length-decimal-le}
 use Rattle.std.proofs.ByRecursion.{All-append}
 use Rattle.money.specs.Amounts.{amount_text, Amount}
@@ -123,7 +123,7 @@ module _ (k : ℕ) where
   abbrev pub posting_row : Posting → Row
   posting_row p = ended (row k p)
 
-  pub same_rows : (ps qs : List Posting) → All (InRange k) ps → All (InRange k) qs → map posting_row ps ≡ map posting_row qs → ps ≡ qs
+  pub same_rows : (ps qs : List Posting) → AllByRecursion (InRange k) ps → AllByRecursion (InRange k) qs → map posting_row ps ≡ map posting_row qs → ps ≡ qs
   same_rows [] [] g h e = refl
   same_rows [] (q ∷ qs) g h e = let z : ◌≡◌ {A = ℕ} 0 1 = cc in absurd (omega arith)
   same_rows (p ∷ ps) [] g h e = let z : ◌≡◌ {A = ℕ} 0 1 = cc in absurd (omega arith)
@@ -132,7 +132,7 @@ module _ (k : ℕ) where
       let rest : map posting_row ps ≡ map posting_row qs = cc in
       λ i. same_row p q g.0 h.0 (ap (λ r. r.bytes) first) i ∷ same_rows ps qs g.1 h.1 rest i
 
-  pub rows_lines : (ps : List Posting) (rest : List ℕ) → All (InRange k) ps → rows (flat_map (line k) ps ++ rest) ≡ map posting_row ps ++ rows rest
+  pub rows_lines : (ps : List Posting) (rest : List ℕ) → AllByRecursion (InRange k) ps → rows (flat_map (line k) ps ++ rest) ≡ map posting_row ps ++ rows rest
   rows_lines [] rest h = refl
   rows_lines (p ∷ ps) rest h =
       ap rows (append_assoc (line k p) (flat_map (line k) ps) rest ∙ append_assoc (row k p) (10 ∷ []) (flat_map (line k) ps ++ rest))

@@ -1,6 +1,6 @@
 -- Import text, by its writing: which bytes stand for a list of postings in a currency, and what such a list reaches.
 use Rattle.std.specs.Prelude.{◌≡◌, ℕ, ◌+◌, ◌≤◌, max, List, [], ◌∷◌, ◌++◌, length, decimal, ◌≢◌}
-use Rattle.std.specs.List.{flat_map, AllByRecursion as All}
+use Rattle.std.specs.List.{flat_map, AllByRecursion}
 use Rattle.money.specs.Amounts.{IsCode, places, amount_text, Amount}
 use Rattle.imports.specs.declared.posting.Posting.{Posting}
 use Rattle.imports.specs.declared.posting.Posting.TheVariants.{Post, Transfer}
@@ -43,7 +43,7 @@ InRange k (Transfer cell other amount) = (cell ≤ top_cell) × (other ≤ top_c
 -- The text stands for these postings in this currency.
 pub record Stands (text code : List ℕ) (ps : List Posting) : Type 0 where
   pub currency : IsCode code
-  pub ranges : All (InRange (places code)) ps
+  pub ranges : AllByRecursion (InRange (places code)) ps
   pub size : length text ≤ most_bytes
   pub writing : text ≡ written code ps
 

@@ -1,6 +1,6 @@
 -- What an import counts over its postings, and its postings from a place of the text on.
 use Rattle.std.specs.Prelude.{◌≡◌, ℕ, ◌+◌, ◌≤◌, max, List, [], ◌∷◌, length, drop, Some, None, Option}
-use Rattle.std.specs.List.{flat_map, AllByRecursion as All}
+use Rattle.std.specs.List.{flat_map, AllByRecursion}
 use Rattle.imports.specs.declared.posting.Posting.{Posting}
 use Rattle.imports.specs.declared.totals.Totals.{Totals}
 use Rattle.imports.specs.Texts.{line, InRange, posting_reach, posting_length, reach, total_length}
@@ -18,7 +18,7 @@ pub record Adds (t : Totals) (p : Posting) (u : Totals) : Type 0 where
 -- From this place on the text is the writing of these postings.
 pub record Left (k : ℕ) (text : List ℕ) (at : ℕ) (ps : List Posting) : Type 0 where
   pub within : at ≤ length text
-  pub ranges : All (InRange k) ps
+  pub ranges : AllByRecursion (InRange k) ps
   pub writing : drop at text ≡ flat_map (line k) ps
 
 -- Of these postings the first is given, or nothing where there is none; for what is then left, P holds.

@@ -3,7 +3,7 @@ use Rattle.std.proofs.Common.{◌≡◌, ℕ, zero, suc, ◌+◌, ◌/◌, ◌^�
 use lib.Signed.{mag}
 use Rattle.std.specs.Str.Parse.{AllDigits}
 use Rattle.std.specs.Fmt.{signed_decimal}
-use Rattle.std.specs.List.{AllByRecursion as All}
+use Rattle.std.specs.List.{AllByRecursion}
 use Rattle.std.proofs.ByRecursion.{All-append, All-weaker}
 use Rattle.std.proofs.lemmas.Fmt.{decimal_is_IsNumeral}
 use Rattle.std.proofs.lemmas.Str.Parse.{digit_from_value}
@@ -14,7 +14,7 @@ use Rattle.money.proofs.Units.{units_same, units_first, digits_padded, length_pa
 
 -- no byte below the minus, so no tab and no end of a line
 abbrev pub High : List ℕ → Type 0
-High s = All (λ b. 45 ≤ b) s
+High s = AllByRecursion (λ b. 45 ≤ b) s
 
 high_digits : (s : List ℕ) → AllDigits 10 s → High s
 high_digits [] d = tt

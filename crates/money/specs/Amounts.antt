@@ -1,7 +1,7 @@
 -- How numbers, currency codes and amounts of money are written, and what reading one of them must answer.
 -- Reading is defined by writing: a field is read as the number whose writing it is, and as nothing where there is none.
 use Rattle.std.specs.Prelude.{◌≡◌, ℕ, zero, suc, ◌+◌, ◌/◌, ◌%◌, ◌^◌, ◌<◌, ◌≤◌, cond, List, [], ◌∷◌, ◌++◌, length, ℤ, pos, negsuc, codes, decimal, Option, MatchOption, ◌≢◌, unsigned_abs}
-use Rattle.std.specs.List.{AllByRecursion as All}
+use Rattle.std.specs.List.{AllByRecursion}
 use Rattle.std.specs.Str.{bytes_eq}
 
 -- No amount lies further than this from zero.
@@ -14,7 +14,7 @@ bound = 10 ^ 15
 
 -- A currency code: three capital letters.
 abbrev pub IsCode : List ℕ → Type 0
-IsCode letters = (length letters ≡ 3) × All (λ b. (65 ≤ b) × (b ≤ 90)) letters
+IsCode letters = (length letters ≡ 3) × AllByRecursion (λ b. (65 ≤ b) × (b ≤ 90)) letters
 
 -- How many digits an amount has after the point: none for the yen, two for every other code.
 abbrev pub places : List ℕ → ℕ

@@ -1,7 +1,7 @@
 -- Fields of a line of text, and the byte that parts them.
 use Rattle.std.specs.Prelude.{ℕ, List, ◌≢◌}
-use Rattle.std.specs.List.{AllByRecursion as All}
+use Rattle.std.specs.List.{AllByRecursion}
 
 -- The byte does not stand in the list.
 abbrev pub Lacks : ℕ → List ℕ → Type 0
-Lacks b bytes = All (λ x. x ≢ b) bytes
+Lacks b bytes = AllByRecursion (λ x. x ≢ b) bytes
