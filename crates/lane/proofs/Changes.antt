@@ -1,8 +1,8 @@
 -- The kinds of change to what is shared, and what each leaves.
-use Rattle.std.proofs.Common.{◌≡◌, ℕ, zero, suc, ◌+◌, ◌-◌, ◌%◌, ◌<◌, ◌≤◌, Bool, true, false, cond, ◌≢◌, ◌⊎◌, List, [], ◌∷◌, ◌++◌, length, get_or, take, set, ℤ, pos, sym, refl, ap, ◌∙◌, subst, inl, inr, ⊎_elim, mod-lt, arith, length-set, get_or-set_other, get_or-set_same}
+use Rattle.std.proofs.Common.{◌≡◌, ℕ, ◌+◌, ◌-◌, ◌%◌, ◌<◌, ◌≤◌, ◌⊎◌, List, ◌∷◌, length, get_or, set, ℤ, pos, sym, refl, ap, ◌∙◌, subst, inl, inr, arith, length-set, get_or-set_other, get_or-set_same}
 use Rattle.std.proofs.lemmas.Bool.{cases_eq, cases_lt}
 use Rattle.body.specs.declared.body.Body.{Ghosts}
-use Rattle.body.specs.Serial.{Outcome, Commit, alone, Agrees, ordered}
+use Rattle.body.specs.Serial.{Commit, alone}
 use Rattle.lane.specs.State.{Core, base, mark_of, mark_set, cell_set, numbered}
 use Rattle.lane.proofs.Orders.{Upto, upto_more, state, full, state_full, state_below, full_top, agrees_top, full_reader, agrees_reader, state_reader}
 use Rattle.lane.proofs.Inv.{Sh, Later, Quiet, Low}

@@ -1,5 +1,5 @@
 -- The machine as the law's proof sees it: seats looked up by number, logs as lists, and no journal.
-use Rattle.std.proofs.Common.{◌≡◌, ℕ, zero, suc, ◌%◌, ◌<◌, ◌≤◌, Bool, true, false, cond, eqb, List, [], ◌∷◌, length, replicate, ℤ, Some, None, Option}
+use Rattle.std.proofs.Common.{◌≡◌, ℕ, zero, suc, ◌%◌, ◌<◌, ◌≤◌, Bool, false, cond, eqb, [], ◌∷◌, length, replicate, Some, None, Option}
 use Rattle.body.specs.declared.body.Body.{Ghosts}
 use Rattle.lane.specs.declared.answer.Answer.{Answer}
 use Rattle.lane.specs.declared.phase.Phase.{Phase}
@@ -11,7 +11,7 @@ use Rattle.lane.specs.Effects.{shared_after, seat_after}
 use Rattle.lane.specs.History.{Call, seated, stepped, other, Moment, History}
 use Rattle.lane.specs.Law.{Opening}
 use Rattle.lane.specs.Phases.{step_at}
-use Rattle.lane.specs.State.{Core, Shared, Work, Seat, with_pause}
+use Rattle.lane.specs.State.{Shared, Work, Seat, with_pause}
 
 pub record World (B : Type 0) : Type 0 where
   pub shared : Shared

@@ -1,32 +1,28 @@
 -- How many steps: a helper in the lane, and the master once it has reserved.
-use Rattle.std.proofs.Common.{◌≡◌, ℕ, zero, suc, ◌+◌, ◌-◌, ◌*◌, ◌%◌, ◌<◌, ◌≤◌, Bool, true, false, cond, eqb, ltb, ◌⊎◌, List, [], ◌∷◌, ◌++◌, length, get_or, ℤ, pos, Some, None, Option, sym, refl, ap, ◌∙◌, subst, inl, inr, ⊎_elim, true≢false, arith}
+use Rattle.std.proofs.Common.{◌≡◌, ℕ, suc, ◌+◌, ◌*◌, ◌%◌, ◌<◌, ◌≤◌, Bool, true, false, cond, eqb, ltb, ◌⊎◌, List, [], ◌∷◌, ◌++◌, length, get_or, ℤ, Some, None, Option, sym, refl, ap, ◌∙◌, subst, inl, inr, ⊎_elim, arith}
 use mathlib.Core.Bool.{false≢true}
-use Rattle.std.proofs.lemmas.Bool.{eqb-true, eqb-false, eq-eqb, ne_eqb, ltb-true, ltb-false, both_ways, cond_both}
+use Rattle.std.proofs.lemmas.Bool.{eqb-true, eq-eqb, cond_both}
 use Rattle.body.specs.declared.body.Body.{Ghosts}
-use Rattle.body.specs.declared.request.Request.{Request}
-use Rattle.body.specs.declared.request.Request.TheVariants.{Read, Write, End}
-use Rattle.body.specs.Meaning.{ReadTold, WriteTaken}
 use Rattle.lane.specs.declared.answer.Answer.{Answer}
-use Rattle.lane.specs.declared.answer.Answer.TheVariants.{GoneOn, Waiting, Paused, BrokenOff, Committed, TooLong}
 use Rattle.body.specs.Serial.{Commit}
 use Rattle.lane.specs.declared.told.Told.{Told}
-use Rattle.lane.specs.History.{Call, seated, stepped, other, Moment, History, number_after, flag_after, body_of, commits, steps_of}
+use Rattle.lane.specs.History.{Call, seated, stepped, other, Moment, History, commits, steps_of}
 use Rattle.lane.specs.Law.{Opening, Takes, Gives}
 use Rattle.lane.specs.declared.phase.Phase.{Phase}
 use Rattle.lane.specs.declared.phase.Phase.TheVariants.{Reserve, MasterLook, Take, MasterRun, Put, Begin, Run, Check, Wait, Look, Prevalidate, Swap, Validate, Mark, Cell, Release, LetGo, Quit, Leave}
 use Rattle.lane.specs.declared.phase.Way.{Way}
 use Rattle.lane.specs.declared.phase.Way.TheVariants.{One, Two, Three}
 use Rattle.lane.specs.Logs.{no_entry}
-use Rattle.lane.specs.State.{Work, Seat, entries, Core, Shared, base, numbered, with_core, stale}
+use Rattle.lane.specs.State.{Work, Seat, entries, Core, Shared, stale}
 use Rattle.lane.specs.Phases.{does, let_go_step, step_at}
 use Rattle.lane.specs.declared.step.Effect.TheVariants.{CellSet}
 use Rattle.lane.specs.declared.step.Step.{Step}
-use Rattle.lane.proofs.Core.{World, Out, to, act, put, moment, step_of, step_moment, first_phase, seat_of, pause_of, opened, Ran, opens, seats, steps, pauses, refuses, out_of}
+use Rattle.lane.proofs.Core.{World, Out, to, act, moment, step_of, step_moment, first_phase, seat_of, pause_of, Ran, opens, seats, steps, pauses, refuses, out_of}
 use Rattle.lane.proofs.Bodies.{Laws}
-use Rattle.lane.proofs.Inv.{View, holds, holds_seat, Facts, Mine, Moves, quiet, takes, works, Good}
+use Rattle.lane.proofs.Inv.{View, holds, holds_seat, Facts, Mine, Moves, quiet, takes, works}
 use Rattle.lane.proofs.Steps.{few_entries}
 use Rattle.lane.proofs.Frame.{mine_odd}
-use Rattle.lane.proofs.Runs.{view_of, Inv, inv, done, held, kept_even, kept_flag}
+use Rattle.lane.proofs.Runs.{view_of, Inv, inv, done}
 
 -- The most steps that a helper has taken in the lane
 abbrev pub rank : {B : Type 0} → Work B → Phase → ℕ

@@ -1,7 +1,7 @@
 -- In a run every entry of a log is a cell of the book, every amount in a cell or a log is within the limit, and attempts start
 -- at even numbers.
 use Rattle.std.proofs.Common.{◌≡◌, ℕ, ◌+◌, ◌%◌, ◌<◌, not, ◌&&◌, eqb, ltb, leb, List, [], ◌∷◌, length, get_or, ℤ, Some, None, Option, refl, subst, arith}
-use Rattle.std.specs.List.{AllByRecursion as All}
+use Rattle.std.specs.List.{AllByRecursion}
 use Rattle.std.proofs.ByRecursion.{All-get_or, All-set, All-push}
 use Rattle.std.proofs.lemmas.Bool.{cond_both}
 use Rattle.body.specs.declared.body.Body.{Ghosts}
@@ -38,8 +38,8 @@ abbrev pub Fit : ℕ → Written → Type 0
 Fit size x = (x.cell < size) × Within x.amount
 
 pub record Held {B : Type 0} (size : ℕ) (s : Work B) : Type 0 where
-  pub reads : All (λ c. c < size) s.reads
-  pub writes : All (Fit size) s.writes
+  pub reads : AllByRecursion (λ c. c < size) s.reads
+  pub writes : AllByRecursion (Fit size) s.writes
   pub even : s.start % 2 ≡ 0
 
 abbrev pub HeldSeat : {B : Type 0} → ℕ → Option (Seat B) → Type 0
@@ -75,19 +75,19 @@ Tidy size z = LogsFit size z.log × SetsWithin z.effect × StartsEven z.told
 
 -- A tidy step keeps what is held -------------------------------------------------
 
-all_enter : (P : Written → Type 0) (c : ℕ) (v : ℤ) (W : List Written) → P (record { cell = c; amount = v }) → All P W → All P (enter c v W)
+all_enter : (P : Written → Type 0) (c : ℕ) (v : ℤ) (W : List Written) → P (record { cell = c; amount = v }) → AllByRecursion P W → AllByRecursion P (enter c v W)
 all_enter P c v [] p a = (p, tt)
 all_enter P c v (x ∷ W) p a =
     let rest = all_enter P c v W p a.1 in
-    cond_both (eqb x.cell c) _ _ (λ (l : List Written). All P l) (λ e. (p, a.1)) (λ e. (a.0, rest))
+    cond_both (eqb x.cell c) _ _ (λ (l : List Written). AllByRecursion P l) (λ e. (p, a.1)) (λ e. (a.0, rest))
 
-reads_held : (size : ℕ) (l : LogChange) (R : List ℕ) → LogsFit size l → All (λ c. c < size) R → All (λ c. c < size) (reads_after l R)
+reads_held : (size : ℕ) (l : LogChange) (R : List ℕ) → LogsFit size l → AllByRecursion (λ c. c < size) R → AllByRecursion (λ c. c < size) (reads_after l R)
 reads_held size Same R f a = a
 reads_held size Emptied R f a = tt
-reads_held size (Noted c) R f a = cond_both (mem c R) _ _ (λ (l : List ℕ). All (λ c. c < size) l) (λ e. a) (λ e. All-push (λ c. c < size) R c a f)
+reads_held size (Noted c) R f a = cond_both (mem c R) _ _ (λ (l : List ℕ). AllByRecursion (λ c. c < size) l) (λ e. a) (λ e. All-push (λ c. c < size) R c a f)
 reads_held size (Entered c v) R f a = a
 
-writes_held : (size : ℕ) (l : LogChange) (W : List Written) → LogsFit size l → All (Fit size) W → All (Fit size) (writes_after l W)
+writes_held : (size : ℕ) (l : LogChange) (W : List Written) → LogsFit size l → AllByRecursion (Fit size) W → AllByRecursion (Fit size) (writes_after l W)
 writes_held size Same W f a = a
 writes_held size Emptied W f a = tt
 writes_held size (Noted c) W f a = a
@@ -99,7 +99,7 @@ start_held (Restarted s) n f e = f
 start_held (Handed c v) n f e = e
 start_held (Taken c v) n f e = e
 
-cells_within : (k : ℕ) (e : Effect) (g : Shared) → SetsWithin e → All Within g.core.cells → All Within (shared_after k e g).core.cells
+cells_within : (k : ℕ) (e : Effect) (g : Shared) → SetsWithin e → AllByRecursion Within g.core.cells → AllByRecursion Within (shared_after k e g).core.cells
 cells_within k Unchanged g f a = a
 cells_within k FlagSet g f a = a
 cells_within k LaneTaken g f a = a
@@ -192,14 +192,14 @@ module _ {B : Type 0} (m : Ghosts B) (law : Laws m) (σ : List ℤ) (g : Shared)
 
 module _ {B : Type 0} (m : Ghosts B) (o : Opening) where
   pub record Clean (w : World B) : Type 0 where
-    pub cells : All Within w.shared.core.cells
+    pub cells : AllByRecursion Within w.shared.core.cells
     pub seats : (k : ℕ) → HeldSeat (length o.cells) (w.seats k)
 
   one_put : (k : ℕ) (x : Option (Seat B)) (f : ℕ → Option (Seat B)) → HeldSeat (length o.cells) x
       → ((j : ℕ) → HeldSeat (length o.cells) (f j)) → (j : ℕ) → HeldSeat (length o.cells) (put m k x f j)
   one_put k x f a b j = cond_both (eqb k j) _ _ (HeldSeat (length o.cells)) (λ e. a) (λ e. b j)
 
-  pub clean : Laws m → All Within o.cells → {h : History B} {w : World B} → Ran m o h w → Clean w
+  pub clean : Laws m → AllByRecursion Within o.cells → {h : History B} {w : World B} → Ran m o h w → Clean w
   clean law a (opens slots l e) = record { cells = a; seats = λ k. tt }
   clean law a (seats h w k y b r idle fits) =
       let i = clean law a r in

@@ -1,16 +1,15 @@
 -- What a seat is known by survives the steps of the others.
-use Rattle.std.proofs.Common.{◌≡◌, ℕ, zero, suc, ◌+◌, ◌-◌, ◌%◌, ◌<◌, ◌≤◌, Bool, true, false, cond, ◌⊎◌, List, [], ◌∷◌, ◌++◌, length, get_or, take, ℤ, pos, Some, None, Option, sym, refl, ap, ◌∙◌, subst, inl, inr, ⊎_elim, true≢false, arith}
+use Rattle.std.proofs.Common.{◌≡◌, ℕ, ◌%◌, ◌<◌, ◌≤◌, Bool, true, false, ◌⊎◌, List, length, get_or, take, ℤ, pos, Some, None, Option, sym, refl, ap, ◌∙◌, subst, inl, inr, true≢false, arith}
 use mathlib.Core.Bool.{false≢true}
 use Rattle.body.specs.declared.body.Body.{Ghosts}
 use Rattle.body.specs.Serial.{Commit}
-use Rattle.lane.specs.declared.told.Told.{Told}
 use Rattle.lane.specs.declared.phase.Phase.{Phase}
 use Rattle.lane.specs.declared.phase.Phase.TheVariants.{Reserve, MasterLook, Take, MasterRun, Put, Begin, Run, Check, Wait, Look, Prevalidate, Swap, Validate, Mark, Cell, Release, LetGo, Quit, Leave}
-use Rattle.lane.specs.State.{Work, Seat, entries, Core, Shared, base, mark_of}
+use Rattle.lane.specs.State.{Work, Seat, entries, Core, base, mark_of}
 use Rattle.lane.proofs.Bodies.{over}
-use Rattle.lane.proofs.Orders.{state, full}
+use Rattle.lane.proofs.Orders.{state}
 use Rattle.lane.proofs.Logs.{emit}
-use Rattle.lane.proofs.Inv.{View, holds, holds_seat, Seen, Sure, Begun, Doing, Ends, Ready, Emits, Masters, Facts, Mine, Later, Quiet}
+use Rattle.lane.proofs.Inv.{View, holds, holds_seat, Seen, Sure, Doing, Ready, Emits, Masters, Facts, Mine, Later, Quiet}
 use Rattle.lane.proofs.Changes.{later_quiet}
 
 module _ {B : Type 0} (m : Ghosts B) (σ : List ℤ) where

@@ -1,16 +1,12 @@
 -- The law of runs holds of every run.
-use Rattle.std.proofs.Common.{◌≡◌, ℕ, zero, suc, ◌+◌, ◌*◌, ◌%◌, ◌<◌, ◌≤◌, Bool, true, false, cond, List, [], ◌∷◌, ◌++◌, length, get_or, ℤ, pos, Some, None, Option, sym, refl, ap, ◌∙◌, subst, arith}
+use Rattle.std.proofs.Common.{ℕ, ◌+◌, ◌*◌, ◌<◌, ◌≤◌, Some, None, Option, subst, arith}
 use Rattle.body.specs.declared.body.Body.{Ghosts}
-use Rattle.lane.specs.declared.answer.Answer.{Answer}
-use Rattle.lane.specs.declared.answer.Answer.TheVariants.{BrokenOff, Committed}
-use Rattle.lane.specs.declared.told.Told.{Told}
-use Rattle.lane.specs.declared.told.Told.TheVariants.{Handed}
-use Rattle.lane.specs.History.{Call, stepped, Moment, History, number_after, flag_after, body_of, attempt, start_of, own_or, commits, steps_of}
-use Rattle.lane.specs.Law.{Opening, Takes, Gives, Sound}
-use Rattle.lane.specs.State.{Seat, Shared, Core, base}
+use Rattle.lane.specs.History.{History, commits, steps_of}
+use Rattle.lane.specs.Law.{Opening, Sound}
+use Rattle.lane.specs.State.{Seat, base}
 use Rattle.lane.proofs.Core.{World, Ran}
 use Rattle.lane.proofs.Bodies.{Laws}
-use Rattle.lane.proofs.Inv.{View, Mine, Hears, Breaks, holds_seat}
+use Rattle.lane.proofs.Inv.{Mine, Hears, Breaks}
 use Rattle.lane.proofs.Runs.{view_of, Each, each_at, OfStep, HeardAt, BrokenAt, ReservedAt, Inv, inv}
 use Rattle.lane.proofs.Counts.{rank_seat, rank_few, back}
 use Rattle.lane.proofs.Soon.{Progs, prog_few, soon}

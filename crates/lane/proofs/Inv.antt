@@ -1,7 +1,6 @@
 -- What holds of a world and its history at any time, in parts: what is shared, and each seat by its phase.
-use Rattle.std.proofs.Common.{◌≡◌, ℕ, zero, suc, ◌+◌, ◌-◌, ◌*◌, ◌%◌, ◌<◌, ◌≤◌, Bool, true, false, cond, ◌⊎◌, List, [], ◌∷◌, ◌++◌, length, get_or, take, set, ℤ, pos, Some, None, Option, inl, inr}
+use Rattle.std.proofs.Common.{◌≡◌, ℕ, suc, ◌%◌, ◌<◌, ◌≤◌, Bool, true, false, ◌⊎◌, List, [], ◌∷◌, length, get_or, take, ℤ, pos, Some, None, Option}
 use Rattle.body.specs.declared.body.Body.{Ghosts}
-use Rattle.body.specs.declared.request.Request.{Request}
 use Rattle.body.specs.declared.request.Request.TheVariants.{Read, Write, End}
 use Rattle.lane.specs.declared.answer.Answer.{Answer}
 use Rattle.lane.specs.declared.answer.Answer.TheVariants.{GoneOn, Waiting, Paused, BrokenOff, Committed, TooLong}
@@ -11,8 +10,7 @@ use Rattle.lane.specs.declared.told.Told.TheVariants.{Nothing, Restarted, Handed
 use Rattle.lane.specs.History.{own_or, amounts, with_body}
 use Rattle.lane.specs.declared.phase.Phase.{Phase}
 use Rattle.lane.specs.declared.phase.Phase.TheVariants.{Reserve, MasterLook, Take, MasterRun, Put, Begin, Run, Check, Wait, Look, Prevalidate, Swap, Validate, Mark, Cell, Release, LetGo, Quit, Leave}
-use Rattle.lane.specs.declared.written.Written.{Written}
-use Rattle.lane.specs.Logs.{has, mem, no_entry}
+use Rattle.lane.specs.Logs.{has, no_entry}
 use Rattle.lane.specs.State.{Work, Seat, entries, Core, Shared, base, mark_of}
 use Rattle.lane.proofs.Core.{Out}
 use Rattle.lane.proofs.Bodies.{over, Valid}

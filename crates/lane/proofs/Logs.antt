@@ -1,12 +1,11 @@
 -- A helper's logs against what its attempt was told.
-use Rattle.std.proofs.Common.{◌≡◌, ℕ, zero, suc, ◌+◌, ◌-◌, ◌<◌, ◌≤◌, Bool, true, false, cond, ◌||◌, eqb, ◌≢◌, ◌⊎◌, List, [], ◌∷◌, ◌++◌, length, get_or, take, set, ℤ, pos, sym, refl, ap, ◌∙◌, subst, inl, inr, append_assoc, append-nil, arith, set-set}
+use Rattle.std.proofs.Common.{◌≡◌, ℕ, zero, suc, ◌<◌, Bool, true, false, cond, ◌||◌, eqb, List, [], ◌∷◌, ◌++◌, length, get_or, take, set, ℤ, pos, sym, refl, ap, ◌∙◌, subst, arith, set-set}
 use lib.Seq.{set_comm}
-use Rattle.std.proofs.lemmas.Bool.{eqb-true, eqb-false, ne_eqb, eq-eqb, or_parts, or_cases, or_left, or_right, both_ways}
+use Rattle.std.proofs.lemmas.Bool.{eqb-true, eqb-false, ne_eqb, eq-eqb, or_parts, or_left, or_right, both_ways}
 use Rattle.body.specs.declared.body.Body.{Ghosts}
-use Rattle.body.specs.declared.request.Request.TheVariants.{Read, Write, End}
 use Rattle.lane.specs.declared.told.Told.{Told}
 use Rattle.lane.specs.declared.told.Told.TheVariants.{Nothing, Restarted, Handed, Taken}
-use Rattle.lane.specs.History.{own_or, amounts}
+use Rattle.lane.specs.History.{own_or}
 use Rattle.lane.specs.declared.written.Written.{Written}
 use Rattle.lane.specs.Logs.{enter, has, logged, mem, note}
 use Rattle.lane.proofs.Bodies.{over, Valid, fresh, read, wrote}

@@ -1,6 +1,6 @@
 -- Every run of a book is orderly.
 use Rattle.std.proofs.Common.{◌≡◌, ℕ, zero, suc, ◌<◌, ◌≤◌, true, false, cond, not, ◌&&◌, eqb, ltb, List, [], ◌∷◌, length, get_or, ℤ, nat_abs, Some, None, Ok, Err, Option, Result, sym, refl, ap, ◌∙◌, subst, arith}
-use Rattle.std.specs.List.{AllByRecursion as All}
+use Rattle.std.specs.List.{AllByRecursion}
 use Rattle.std.proofs.ByRecursion.{All-append}
 use Rattle.std.proofs.lemmas.Bool.{eq-eqb, lt-ltb, le-ltb, leb-true, or_parts, not-false, and_from, cond_both}
 use Rattle.body.specs.declared.body.Body.{Ghosts}
@@ -32,7 +32,7 @@ use Rattle.lane.proofs.Tallies.{added}
 use Rattle.lane.proofs.Whole.{right}
 
 -- A book is opened with amounts within the limit.
-all_within : (cells : List ℤ) → some_beyond cells ≡ false → All Within cells
+all_within : (cells : List ℤ) → some_beyond cells ≡ false → AllByRecursion Within cells
 all_within [] e = tt
 all_within (x ∷ cells) e =
     let a = or_parts (not (within_limit x)) (some_beyond cells) e in
@@ -40,17 +40,17 @@ all_within (x ∷ cells) e =
 
 -- Entries of logs are cells of the book --------------------------------------------
 
-read_there : (size : ℕ) (R : List ℕ) (i : ℕ) → 0 < size → All (λ c. c < size) R → get_or R i 0 < size
+read_there : (size : ℕ) (R : List ℕ) (i : ℕ) → 0 < size → AllByRecursion (λ c. c < size) R → get_or R i 0 < size
 read_there size [] i l a = l
 read_there size (c ∷ R) zero l a = a.0
 read_there size (c ∷ R) (suc i) l a = read_there size R i l a.1
 
-written_there : (size : ℕ) (W : List Written) (i : ℕ) → 0 < size → All (Fit size) W → (get_or W i no_entry).cell < size
+written_there : (size : ℕ) (W : List Written) (i : ℕ) → 0 < size → AllByRecursion (Fit size) W → (get_or W i no_entry).cell < size
 written_there size [] i l a = l
 written_there size (x ∷ W) zero l a = a.0.0
 written_there size (x ∷ W) (suc i) l a = written_there size W i l a.1
 
-cells_there : (size : ℕ) (W : List Written) → All (Fit size) W → All (λ c. c < size) (cells_of W)
+cells_there : (size : ℕ) (W : List Written) → AllByRecursion (Fit size) W → AllByRecursion (λ c. c < size) (cells_of W)
 cells_there size [] a = tt
 cells_there size (x ∷ W) a = (a.0.0, cells_there size W a.1)
 
@@ -93,7 +93,7 @@ long_as_opened w n =
     (eq-eqb _ _ n.journal))
 
 module _ {B : Type 0} (m : Ghosts B) (law : Laws m) where
-  opened_within : {o : Opening} {h : History B} {w : World B} → Ran m o h w → All Within o.cells
+  opened_within : {o : Opening} {h : History B} {w : World B} → Ran m o h w → AllByRecursion Within o.cells
   opened_within (opens o e) = all_within o.cells (opens_well o e).within
   opened_within (seats o h w k y t b r) = opened_within r
   opened_within (steps o h w k r) = opened_within r

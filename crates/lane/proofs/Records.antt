@@ -1,5 +1,5 @@
 -- In a run the journal has room for every record that a step makes, and commits are counted.
-use Rattle.std.proofs.Common.{◌≡◌, ℕ, zero, suc, ◌+◌, ◌-◌, ◌<◌, ◌≤◌, Bool, true, false, cond, eqb, ltb, List, [], ◌∷◌, length, get_or, take, replicate, Some, None, Option, sym, refl, ap, ◌∙◌, subst, arith}
+use Rattle.std.proofs.Common.{◌≡◌, ℕ, zero, suc, ◌+◌, ◌<◌, ◌≤◌, Bool, true, false, cond, eqb, ltb, List, [], ◌∷◌, length, get_or, take, replicate, Some, None, Option, sym, refl, ap, ◌∙◌, subst, arith}
 use mathlib.Core.Bool.{false≢true}
 use Rattle.std.proofs.lemmas.List.{take_more_set}
 use Rattle.std.proofs.lemmas.Bool.{eqb-true, eqb-false, ltb-true, ltb-false, lt-ltb, cond_both}
@@ -18,7 +18,7 @@ use Rattle.lane.specs.Effects.{body_after}
 use Rattle.lane.specs.History.{History, commits}
 use Rattle.lane.specs.Journals.{recorded, changes}
 use Rattle.lane.specs.Law.{Opening}
-use Rattle.lane.specs.Sane.{raises, of_seat, total, present, Fair, FairSeat, Sane}
+use Rattle.lane.specs.Sane.{of_seat, total, present, Fair, FairSeat, Sane}
 use Rattle.lane.specs.Worlds.{World, work_of}
 use Rattle.lane.proofs.Bodies.{Laws}
 use Rattle.lane.proofs.Budgets.{spare, holds_next, if_any, Made, len_after, Adds, adds}

@@ -1,24 +1,22 @@
 -- What holds of every run.
-use Rattle.std.proofs.Common.{◌≡◌, ℕ, zero, suc, ◌+◌, ◌-◌, ◌%◌, ◌<◌, ◌≤◌, Bool, true, false, cond, eqb, ◌⊎◌, List, [], ◌∷◌, ◌++◌, length, get_or, replicate, ℤ, pos, Some, None, Option, sym, refl, ap, ◌∙◌, subst, inl, inr, ⊎_elim, true≢false, arith}
+use Rattle.std.proofs.Common.{◌≡◌, ℕ, zero, suc, ◌%◌, ◌<◌, ◌≤◌, Bool, true, false, cond, eqb, List, [], ◌∷◌, ◌++◌, length, get_or, replicate, pos, Some, None, sym, refl, ap, ◌∙◌, subst, ⊎_elim, arith}
 use mathlib.Core.Bool.{false≢true}
-use lib.ListN.{length-replicate, get_or-replicate}
-use Rattle.std.proofs.lemmas.Bool.{eqb-true, eqb-false, eq-eqb, ne_eqb, both_ways}
+use lib.ListN.{length-replicate}
+use Rattle.std.proofs.lemmas.Bool.{eqb-true, eqb-false, eq-eqb, both_ways}
 use Rattle.body.specs.declared.body.Body.{Ghosts}
 use Rattle.lane.specs.declared.answer.Answer.{Answer}
 use Rattle.lane.specs.declared.answer.Answer.TheVariants.{GoneOn, Waiting, Paused, BrokenOff, Committed, TooLong}
-use Rattle.body.specs.Serial.{Commit, Agrees, ordered}
+use Rattle.body.specs.Serial.{Commit}
 use Rattle.lane.specs.declared.told.Told.{Told}
 use Rattle.lane.specs.declared.told.Told.TheVariants.{Nothing, Restarted, Handed, Taken}
-use Rattle.lane.specs.History.{own_or, amounts, Call, seated, stepped, other, Moment, History, number_after, flag_after, body_of, attempt, start_of, commits}
+use Rattle.lane.specs.History.{own_or, Call, seated, stepped, other, Moment, History, number_after, flag_after, body_of, attempt, start_of, commits}
 use Rattle.lane.specs.Law.{Opening, Takes}
-use Rattle.lane.specs.declared.phase.Phase.{Phase}
 use Rattle.lane.specs.declared.phase.Way.{Way}
-use Rattle.lane.specs.State.{Work, Seat, Core, Shared, base, mark_of}
-use Rattle.lane.proofs.Core.{World, Out, to, act, put, moment, step_of, step_moment, first_phase, seat_of, pause_of, opened, Ran, opens, seats, steps, pauses, refuses}
+use Rattle.lane.specs.State.{Seat, Core, base}
+use Rattle.lane.proofs.Core.{World, Out, to, act, moment, step_of, step_moment, first_phase, seat_of, pause_of, opened, Ran, opens, seats, steps, pauses, refuses}
 use Rattle.lane.proofs.Bodies.{Laws}
-use Rattle.lane.proofs.Orders.{Upto, state, full}
-use Rattle.lane.proofs.Inv.{View, heard, grown, holds, holds_seat, Sh, Waits, Facts, Mine, Later, Quiet, Moves, quiet, takes, works, Hears, Breaks, Good}
-use Rattle.lane.proofs.Changes.{quiet_refl, later_quiet}
+use Rattle.lane.proofs.Orders.{state}
+use Rattle.lane.proofs.Inv.{View, heard, grown, holds, holds_seat, Sh, Waits, Facts, Mine, Moves, quiet, takes, works, Hears, Breaks, Good}
 use Rattle.lane.proofs.Steps.{good}
 use Rattle.lane.proofs.Frame.{mine_later, mine_quiet, mine_odd}
 

@@ -1,7 +1,6 @@
 -- Every call keeps a book sane, whatever the lists hold.
-use Rattle.std.proofs.Common.{◌≡◌, ℕ, zero, suc, ◌+◌, ◌-◌, ◌*◌, ◌<◌, ◌≤◌, Bool, true, false, cond, not, ◌&&◌, ◌||◌, eqb, ltb, leb, List, [], ◌∷◌, ◌++◌, length, get_or, take, drop, set, replicate, Some, None, Option, sym, refl, ap, ◌∙◌, subst, true≢false, mul-le-mul_left, arith, length-append, length-set, get_or-set_other, get_or-set_same}
+use Rattle.std.proofs.Common.{◌≡◌, ℕ, zero, suc, ◌+◌, ◌-◌, ◌*◌, ◌<◌, ◌≤◌, Bool, true, false, cond, not, ◌&&◌, ◌||◌, eqb, ltb, leb, List, [], ◌∷◌, ◌++◌, length, get_or, set, replicate, Some, None, Option, sym, refl, ap, ◌∙◌, subst, true≢false, mul-le-mul_left, arith, length-append, length-set, get_or-set_other, get_or-set_same}
 use mathlib.Core.Bool.{false≢true}
-use lib.ListN.{length-replicate}
 use Rattle.std.proofs.lemmas.Bool.{eqb-true, eqb-false, eq-eqb, ne_eqb, ltb-true, ltb-false, leb-false, cond_both, and_parts, or_parts, or_right}
 use Rattle.body.specs.declared.body.Body.{Ghosts}
 use Rattle.journal.specs.declared.record.Record.{Record}
@@ -18,13 +17,12 @@ use Rattle.lane.specs.declared.step.LogChange.{LogChange}
 use Rattle.lane.specs.declared.step.LogChange.TheVariants.{Same, Emptied, Noted, Entered}
 use Rattle.lane.specs.declared.step.Step.{Step}
 use Rattle.lane.specs.declared.written.Written.{Written}
-use Rattle.lane.specs.Calls.{After, Opened, top_number, all_seats, open_refusal, open_world, some_beyond, is_idle, way_of, needed, kept, first_phase, way_refusal, seat_refusal, newly_seated, taken_way, seat_world, seat_by, seat_call, record_by, made_by, used_after, seated_to, same_sizes, has_room, record_of, moved, seated_after, step_world, step_now, can_step, step_did, step_by, step_call, paused_as, pause_call, resume_call}
+use Rattle.lane.specs.Calls.{After, Opened, top_number, open_refusal, open_world, some_beyond, is_idle, way_of, needed, kept, first_phase, way_refusal, seat_refusal, newly_seated, taken_way, seat_world, seat_by, seat_call, record_by, made_by, used_after, seated_to, same_sizes, has_room, record_of, moved, seated_after, step_world, step_now, can_step, step_by, step_call, paused_as, pause_call, resume_call}
 use Rattle.lane.specs.Effects.{shared_after, reads_after, writes_after}
-use Rattle.lane.specs.Logs.{has, mem, note, enter, most_reads, most_writes}
-use Rattle.lane.specs.Sane.{raises, lowers, masters, entry_at, queued, joins, joined, of_seat, total, raises_of, lowers_of, joined_of, present, Fair, FairSeat, Sized, Sane}
-use Rattle.lane.specs.State.{Shared, Work, odd, without}
-use Rattle.lane.specs.declared.sizes.Sizes.{Sizes}
-use Rattle.lane.specs.Worlds.{World, stretch, reads_from, writes_from, read_log, write_log, work_of, reads_used, writes_used}
+use Rattle.lane.specs.Logs.{has, mem, enter, most_reads, most_writes}
+use Rattle.lane.specs.Sane.{raises, lowers, masters, entry_at, queued, joined, of_seat, total, raises_of, lowers_of, joined_of, Fair, FairSeat, Sane}
+use Rattle.lane.specs.State.{Shared, odd, without}
+use Rattle.lane.specs.Worlds.{World, reads_from, writes_from, read_log, write_log, work_of, reads_used, writes_used}
 use Rattle.lane.proofs.Steady.{of_next, NextIs, Queues, Plain, Steady, steady}
 use Rattle.lane.proofs.Stretched.{length_stretch, enter_new, enter_old}
 

@@ -1,38 +1,30 @@
 -- A book with its lists, seen as the law's proof sees it: each call of the book is a call of that machine.
-use Rattle.std.proofs.Common.{◌≡◌, ℕ, zero, suc, ◌+◌, ◌-◌, ◌*◌, ◌%◌, ◌<◌, ◌≤◌, Bool, true, false, cond, not, ◌&&◌, ◌||◌, eqb, ltb, leb, ◌≢◌, ◌⊎◌, List, [], ◌∷◌, ◌++◌, length, get_or, take, drop, set, replicate, Some, None, Option, sym, refl, ap, ◌∙◌, subst, inl, inr, true≢false, add-one, arith, length-append, length-set}
+use Rattle.std.proofs.Common.{◌≡◌, ℕ, zero, suc, ◌+◌, ◌-◌, ◌*◌, ◌<◌, ◌≤◌, Bool, true, false, cond, ◌||◌, eqb, ltb, ◌≢◌, ◌⊎◌, List, [], ◌∷◌, ◌++◌, length, get_or, set, Some, None, Option, sym, refl, ap, ◌∙◌, subst, inr, add-one, arith, length-append}
 use mathlib.Core.Path.{fun_ext}
 use mathlib.Core.Bool.{false≢true}
-use lib.ListN.{length-replicate}
-use Rattle.std.proofs.lemmas.Bool.{eqb-true, eqb-false, eq-eqb, ltb-true, ltb-false, leb-false, cond_both, and_parts}
+use Rattle.std.proofs.lemmas.Bool.{eqb-true, eqb-false, eq-eqb, ltb-true, ltb-false, cond_both}
 use Rattle.body.specs.declared.body.Body.{Ghosts}
 use Rattle.lane.specs.declared.phase.Phase.{Phase}
-use Rattle.lane.specs.declared.phase.Way.{Way}
 use Rattle.lane.specs.declared.refusal.SeatRefusal.{SeatRefusal}
 use Rattle.lane.specs.declared.seated.Seated.{Seated}
-use Rattle.lane.specs.declared.step.Effect.{Effect}
-use Rattle.lane.specs.declared.step.Effect.TheVariants.{Unchanged, FlagSet, LaneTaken, MarkSet, CellSet, NumberRaised, NumberLowered, QueueJoined, QueueLeft}
 use Rattle.lane.specs.declared.step.LogChange.{LogChange}
 use Rattle.lane.specs.declared.step.LogChange.TheVariants.{Same, Emptied, Noted, Entered}
 use Rattle.lane.specs.declared.step.Step.{Step}
 use Rattle.lane.specs.declared.written.Written.{Written}
 use Rattle.lane.specs.Calls as calls
 use Rattle.lane.specs.Calls.{After, Opened, opening, open_refusal, open_world, way_of, newly_seated, taken_way, seat_refusal, seat_world, seat_by, seat_call, seated_to, same_sizes, has_room, record_of, moved, seated_after, journal_after, step_world, step_now, can_step, step_did, step_by, step_call, pause_call, resume_call}
-use Rattle.lane.specs.Effects.{shared_after, reads_after, writes_after, seat_to, seat_after, work_after, body_after}
-use Rattle.lane.specs.History.{Call, seated, stepped, other, Moment, History}
-use Rattle.lane.specs.Law.{Opening, Sound}
-use Rattle.lane.specs.Logs.{has, mem, note, enter, place_by, itself, cell_of, place, most_reads, most_writes}
-use Rattle.lane.specs.Runs.{Ran, opens, seats, steps, pauses, resumes}
-use Rattle.lane.specs.Sane.{masters, Fair, FairSeat, Sane, present}
-use Rattle.lane.specs.State.{Core, Shared, Work, Seat}
-use Rattle.lane.specs.declared.sizes.Sizes.{Sizes}
+use Rattle.lane.specs.Effects.{reads_after, writes_after, seat_to, seat_after, work_after, body_after}
+use Rattle.lane.specs.History.{seated, History}
+use Rattle.lane.specs.Law.{Opening}
+use Rattle.lane.specs.Logs.{has, mem, enter, place_by, itself, cell_of, place, most_reads, most_writes}
+use Rattle.lane.specs.Sane.{masters, Fair, FairSeat, Sane}
+use Rattle.lane.specs.State.{Seat}
 use Rattle.lane.specs.Worlds.{World, stretch, reads_from, writes_from, read_log, write_log, work_of, reads_used, writes_used, reads_laid, writes_laid}
-use Rattle.lane.proofs.Bodies.{Laws}
 use Rattle.lane.proofs.Core as core
 use Rattle.lane.proofs.Core.{to, put}
-use Rattle.lane.proofs.Holds.{sound}
-use Rattle.lane.proofs.Sanity.{get_d_set, getD_none, Lent, lent_from, stretch_fits, length_reads, length_writes, st, sane_did, sane_step, sane_seat, sane_pause, sane_resume, Opens, opens_well, sane_open, Accepted, accepted}
+use Rattle.lane.proofs.Sanity.{get_d_set, Lent, stretch_fits, length_reads, length_writes, st, Accepted, accepted}
 use Rattle.lane.proofs.Steady.{Steady, Plain}
-use Rattle.lane.proofs.Stretched.{stretch_push, stretch_set, stretch_other, apart, holds_place, place_few, noted_within, entered_within, enter_new, enter_old, length_stretch}
+use Rattle.lane.proofs.Stretched.{stretch_push, stretch_set, stretch_other, apart, holds_place, place_few, noted_within, entered_within, enter_new, enter_old}
 
 -- A cell that is entered again in its place changes nothing.
 set_again : (c : ℕ) (R : List ℕ) → mem c R ≡ true → set R (place_by itself c R) c ≡ R

@@ -1,30 +1,26 @@
 -- How soon the master commits, once it has reserved a free lane.
-use Rattle.std.proofs.Common.{◌≡◌, ℕ, zero, suc, ◌+◌, ◌-◌, ◌*◌, ◌%◌, ◌<◌, ◌≤◌, Bool, true, false, cond, eqb, ltb, ◌⊎◌, List, [], ◌∷◌, ◌++◌, length, get_or, ℤ, pos, Some, None, Option, sym, refl, ap, ◌∙◌, subst, inl, inr, ⊎_elim, true≢false, zero-add, arith}
+use Rattle.std.proofs.Common.{◌≡◌, ℕ, ◌+◌, ◌*◌, ◌%◌, ◌<◌, ◌≤◌, Bool, true, false, cond, eqb, ◌⊎◌, List, [], ◌∷◌, ◌++◌, get_or, ℤ, pos, Some, None, Option, sym, refl, ap, ◌∙◌, subst, inl, inr, ⊎_elim, zero-add, arith}
 use mathlib.Core.Bool.{false≢true}
-use Rattle.std.proofs.lemmas.Bool.{eqb-true, eqb-false, eq-eqb, ne_eqb, ltb-true, ltb-false, both_ways, cond_both}
+use Rattle.std.proofs.lemmas.Bool.{eqb-true, eqb-false, cond_both}
 use Rattle.body.specs.declared.body.Body.{Ghosts}
 use Rattle.body.specs.declared.request.Request.{Request}
 use Rattle.body.specs.declared.request.Request.TheVariants.{Read, Write, End}
 use Rattle.body.specs.Meaning.{ReadTold, WriteTaken}
-use Rattle.lane.specs.declared.answer.Answer.{Answer}
-use Rattle.lane.specs.declared.answer.Answer.TheVariants.{GoneOn, Waiting, Paused, BrokenOff, Committed, TooLong}
+use Rattle.lane.specs.declared.answer.Answer.TheVariants.{Committed}
 use Rattle.body.specs.Serial.{Commit}
 use Rattle.lane.specs.declared.told.Told.{Told}
 use Rattle.lane.specs.History.{Call, seated, stepped, other, Moment, History, number_after, flag_after, body_of, commits, steps_of}
-use Rattle.lane.specs.Law.{Opening, Takes, Gives}
+use Rattle.lane.specs.Law.{Opening}
 use Rattle.lane.specs.declared.phase.Phase.{Phase}
 use Rattle.lane.specs.declared.phase.Phase.TheVariants.{Reserve, MasterLook, Take, MasterRun, Put, Begin, Run, Check, Wait, Look, Prevalidate, Swap, Validate, Mark, Cell, Release, LetGo, Quit, Leave}
-use Rattle.lane.specs.declared.phase.Way.{Way}
-use Rattle.lane.specs.declared.phase.Way.TheVariants.{One, Two, Three}
-use Rattle.lane.specs.State.{Work, Seat, entries, Core, Shared, base, numbered, with_core, stale}
+use Rattle.lane.specs.State.{Work, Seat, Shared}
 use Rattle.lane.specs.Phases.{master_run_step, step_at}
 use Rattle.lane.specs.declared.step.Step.{Step}
-use Rattle.lane.proofs.Core.{World, Out, to, act, put, moment, step_of, step_moment, first_phase, seat_of, pause_of, opened, Ran, opens, seats, steps, pauses, refuses, out_of}
+use Rattle.lane.proofs.Core.{World, Out, to, act, moment, step_of, step_moment, first_phase, seat_of, pause_of, Ran, opens, seats, steps, pauses, refuses, out_of}
 use Rattle.lane.proofs.Bodies.{Laws}
-use Rattle.lane.proofs.Inv.{View, holds, holds_seat, Facts, Mine, Moves, quiet, takes, works, Good}
-use Rattle.lane.proofs.Frame.{mine_odd}
+use Rattle.lane.proofs.Inv.{View, Facts}
 use Rattle.lane.proofs.Counts.{facts, steps_more}
-use Rattle.lane.proofs.Runs.{view_of, Inv, inv, done, held, kept_even, kept_flag}
+use Rattle.lane.proofs.Runs.{view_of, Inv, inv, kept_even, kept_flag}
 
 -- Whether a phase has the flag up
 abbrev pub reserving : Phase → Bool

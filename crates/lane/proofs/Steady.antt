@@ -1,7 +1,7 @@
 -- Each step keeps a book sane: phases stay the master's or a helper's, logs and entries stay short, and numbers near.
-use Rattle.std.proofs.Common.{◌≡◌, ℕ, zero, suc, ◌+◌, ◌-◌, ◌*◌, ◌<◌, ◌≤◌, Bool, true, false, cond, not, ◌&&◌, eqb, ltb, leb, List, [], ◌∷◌, ◌++◌, length, get_or, ℤ, pos, Some, None, Option, sym, refl, ap, ◌∙◌, subst, arith, length-append}
+use Rattle.std.proofs.Common.{◌≡◌, ℕ, ◌+◌, ◌≤◌, true, false, not, ◌&&◌, eqb, ltb, leb, length, get_or, pos, Some, None, Option, sym, refl, ap, ◌∙◌, arith}
 use mathlib.Core.Bool.{false≢true}
-use Rattle.std.proofs.lemmas.Bool.{eqb-true, eqb-false, ltb-true, ltb-false, leb-false, cond_both}
+use Rattle.std.proofs.lemmas.Bool.{ltb-true, cond_both}
 use Rattle.body.specs.declared.body.Body.{Ghosts}
 use Rattle.body.specs.declared.request.Request.{Request}
 use Rattle.body.specs.declared.request.Request.TheVariants.{Read, Write, End}
@@ -15,9 +15,9 @@ use Rattle.lane.specs.declared.step.LogChange.{LogChange}
 use Rattle.lane.specs.declared.step.LogChange.TheVariants.{Same, Emptied, Noted, Entered}
 use Rattle.lane.specs.declared.step.Step.{Step}
 use Rattle.lane.specs.Effects.{shared_after, reads_after, writes_after}
-use Rattle.lane.specs.Logs.{has, mem, no_entry, most_reads, most_writes, cells_of}
-use Rattle.lane.specs.Phases.{goes, does, look_step, look_even, way_step, read_step, run_step, after_swap, after_release, let_go_step, release_step, commits_as, master_run_step, step_at}
-use Rattle.lane.specs.Sane.{raises, lowers, masters, entry_at, joins, joined}
+use Rattle.lane.specs.Logs.{has, mem, no_entry, most_reads, most_writes}
+use Rattle.lane.specs.Phases.{goes, does, look_step, look_even, way_step, read_step, run_step, after_swap, let_go_step, release_step, master_run_step, step_at}
+use Rattle.lane.specs.Sane.{raises, lowers, masters, entry_at, joined}
 use Rattle.lane.specs.State.{Shared, Work, entries, odd, stale, first_is}
 use Rattle.lane.proofs.Steps.{few_entered, few_noted, not_full, few_entries}
 

@@ -1,14 +1,14 @@
 -- Each phase's step keeps what holds of what is shared and of its own seat.
-use Rattle.std.proofs.Common.{◌≡◌, ℕ, zero, suc, ◌+◌, ◌-◌, ◌%◌, ◌<◌, ◌≤◌, Bool, true, false, cond, not, ◌&&◌, eqb, ltb, leb, ◌≢◌, ◌⊎◌, List, [], ◌∷◌, ◌++◌, length, get_or, take, set, ℤ, pos, Some, None, Option, sym, refl, ap, ◌∙◌, subst, inl, inr, ⊎_elim, true≢false, add-one, arith, length-append, length-set, take_all}
+use Rattle.std.proofs.Common.{◌≡◌, ℕ, suc, ◌+◌, ◌-◌, ◌%◌, ◌<◌, ◌≤◌, Bool, true, false, cond, not, ◌&&◌, eqb, ltb, leb, ◌⊎◌, List, [], ◌∷◌, ◌++◌, length, get_or, take, set, ℤ, pos, Some, None, Option, sym, refl, ap, ◌∙◌, subst, inl, inr, ⊎_elim, true≢false, add-one, arith, length-append, take_all}
 use mathlib.Core.Bool.{false≢true}
 use lib.ListN.{get_or-append}
-use Rattle.std.proofs.lemmas.Bool.{eqb-true, eqb-false, ltb-true, ltb-false, leb-true, leb-false, cases_lt, cases_eq, cond_both, both_ways, and_parts, and_cases, not-true, not-false}
+use Rattle.std.proofs.lemmas.Bool.{eqb-true, eqb-false, ltb-true, ltb-false, leb-false, cases_lt, cond_both, both_ways, and_parts, not-true}
 use Rattle.body.specs.declared.body.Body.{Ghosts}
 use Rattle.body.specs.declared.request.Request.{Request}
 use Rattle.body.specs.declared.request.Request.TheVariants.{Read, Write, End}
 use Rattle.lane.specs.declared.answer.Answer.{Answer}
 use Rattle.lane.specs.declared.answer.Answer.TheVariants.{GoneOn, Waiting, Paused, BrokenOff, Committed, TooLong}
-use Rattle.body.specs.Serial.{Outcome, Commit, alone, Agrees, ordered}
+use Rattle.body.specs.Serial.{Outcome, Commit, alone}
 use Rattle.lane.specs.declared.told.Told.{Told}
 use Rattle.lane.specs.declared.told.Told.TheVariants.{Nothing, Restarted, Handed, Taken}
 use Rattle.lane.specs.History.{own_or, amounts, with_body}
@@ -19,16 +19,16 @@ use Rattle.lane.specs.declared.phase.Way.TheVariants.{One, Two, Three}
 use Rattle.lane.specs.declared.written.Written.{Written}
 use Rattle.lane.specs.Logs.{has, logged, enter, mem, note, cells_of, no_entry}
 use Rattle.lane.specs.State.{Work, Seat, entries, Core, Shared, base, mark_of, mark_set, cell_set, numbered, with_core, with_queue, without, first_is, stale}
-use Rattle.lane.specs.Phases.{answers, goes, does, stays, breaks_off, restarts, hands, takes_write, commits_as, too_long, master_run_step, read_step, check_step, write_step, look_even, look_step, way_step, end_step, run_step, after_swap, after_release, let_go_step, release_step, step_at}
+use Rattle.lane.specs.Phases.{goes, does, stays, hands, commits_as, too_long, master_run_step, read_step, look_even, look_step, way_step, run_step, after_swap, after_release, let_go_step, step_at}
 use Rattle.lane.specs.Effects.{seat_to}
-use Rattle.lane.specs.declared.step.Effect.TheVariants.{Unchanged, MarkSet, CellSet, NumberRaised}
+use Rattle.lane.specs.declared.step.Effect.TheVariants.{Unchanged, CellSet, NumberRaised}
 use Rattle.lane.specs.declared.step.LogChange.TheVariants.{Same, Noted}
 use Rattle.lane.specs.declared.step.Step.{Step}
 use Rattle.lane.proofs.Core.{to, out_of}
 use Rattle.lane.proofs.Bodies.{over, get_d_over, Laws, Valid, fresh, read, wrote, valid_same, reads_within, replay}
-use Rattle.lane.proofs.Orders.{Upto, upto_more, state, full, state_full, length_full, length_state}
-use Rattle.lane.proofs.Logs.{log, emit, Covers, logged_log, logged_default, logged_miss, emit_log, emit_take, covers_more, mem_note, mem_noted, mem_place, moved}
-use Rattle.lane.proofs.Inv.{View, heard, grown, holds, holds_seat, Seen, Fresh, Sure, Begun, Logged, Sh, Waits, Doing, Ends, Ready, Emits, Masters, Low, Facts, Mine, Later, Quiet, Moves, quiet, takes, works, Hears, Breaks, Good}
+use Rattle.lane.proofs.Orders.{upto_more, state, full, state_full, length_full, length_state}
+use Rattle.lane.proofs.Logs.{log, emit, logged_log, logged_default, logged_miss, emit_log, emit_take, covers_more, mem_note, mem_noted, mem_place, moved}
+use Rattle.lane.proofs.Inv.{View, heard, grown, holds, holds_seat, Fresh, Sure, Sh, Waits, Doing, Ends, Ready, Masters, Facts, Mine, Later, Moves, quiet, takes, works, Hears, Breaks, Good}
 use Rattle.lane.proofs.Changes.{mark_set_here, quiet_refl, later_quiet, sh_mark, later_mark, sh_cell, later_cell, sh_take, later_take, sh_give, later_give, sh_commit, later_commit, quiet_reader, sh_reader}
 
 -- Lengths of logs --------------------------------------------------------------

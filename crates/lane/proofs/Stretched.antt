@@ -1,9 +1,9 @@
 -- What a write to a long list does to the stretches of it, and the logs by places.
-use Rattle.std.proofs.Common.{◌≡◌, ℕ, zero, suc, ◌+◌, ◌-◌, ◌*◌, ◌<◌, ◌≤◌, Bool, true, false, cond, ◌||◌, eqb, ltb, ◌≢◌, ◌⊎◌, List, [], ◌∷◌, ◌++◌, length, get_or, take, drop, set, ℤ, sym, refl, ap, ◌∙◌, subst, inl, inr, mul-le-mul_left, arith, length-append, length-drop, length-set, length-take, get_or-drop, get_or-set_other, get_or-take, take-suc, get_or-set_same, take-suc-set, drop-set-lt}
+use Rattle.std.proofs.Common.{◌≡◌, ℕ, zero, suc, ◌+◌, ◌-◌, ◌*◌, ◌<◌, ◌≤◌, Bool, true, false, cond, ◌||◌, eqb, ltb, ◌≢◌, ◌⊎◌, List, [], ◌∷◌, ◌++◌, length, get_or, take, drop, set, ℤ, sym, refl, ap, ◌∙◌, subst, inl, inr, mul-le-mul_left, arith, length-append, length-drop, length-take, get_or-drop, get_or-take, take-suc-set, drop-set-lt}
 use mathlib.Core.Bool.{false≢true}
 use lib.Dec.{leb-suc-suc}
 use lib.Seq.{take-set-le, take-set-lt, drop-set-add}
-use Rattle.std.proofs.lemmas.Bool.{eqb-true, eqb-false, eq-eqb, ne_eqb, lt-ltb, le-ltb, ltb-true, cases_lt, cond_both, or_parts, or_right}
+use Rattle.std.proofs.lemmas.Bool.{eq-eqb, ne_eqb, lt-ltb, ltb-true, cases_lt, cond_both, or_parts}
 use Rattle.lane.specs.declared.written.Written.{Written}
 use Rattle.lane.specs.Logs.{holds, place_by, has, logged, enter, mem, no_entry, place, itself, cell_of, note}
 use Rattle.lane.specs.Worlds.{stretch}

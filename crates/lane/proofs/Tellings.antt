@@ -1,6 +1,6 @@
 -- What a step tells its body is what the body asks for.
-use Rattle.std.proofs.Common.{◌≡◌, ℕ, ◌≤◌, Bool, true, false, cond, not, ◌&&◌, eqb, ltb, leb, List, [], ◌∷◌, length, get_or, ℤ, Some, None, Option, sym, refl, ap, ◌∙◌, subst, arith}
-use Rattle.std.proofs.lemmas.Bool.{cond_both, ltb-false}
+use Rattle.std.proofs.Common.{◌≡◌, ℕ, not, ◌&&◌, eqb, ltb, leb, List, length, get_or, ℤ, Some, None, Option, sym, refl, ◌∙◌, subst}
+use Rattle.std.proofs.lemmas.Bool.{cond_both}
 use Rattle.body.specs.declared.body.Body.{Ghosts}
 use Rattle.body.specs.declared.request.Request.{Request}
 use Rattle.body.specs.declared.request.Request.TheVariants.{Read, Write, End}
@@ -9,16 +9,15 @@ use Rattle.lane.specs.declared.phase.Phase.{Phase}
 use Rattle.lane.specs.declared.phase.Phase.TheVariants.{Reserve, MasterLook, Take, MasterRun, Put, Begin, Run, Check, Wait, Look, Prevalidate, Swap, Validate, Mark, Cell, Release, LetGo, Quit, Leave}
 use Rattle.lane.specs.declared.phase.Way.{Way}
 use Rattle.lane.specs.declared.phase.Way.TheVariants.{One, Two, Three}
-use Rattle.lane.specs.declared.refusal.SeatRefusal.{SeatRefusal}
 use Rattle.lane.specs.declared.seated.Seated.{Seated}
 use Rattle.lane.specs.declared.step.Step.{Step}
-use Rattle.lane.specs.Calls.{After, can_step, seat_refusal, seat_by, seat_call, step_now, step_by, step_call, pause_call, resume_call, untouched}
+use Rattle.lane.specs.Calls.{After, can_step, step_now, step_by, step_call}
 use Rattle.lane.specs.History.{History, commits}
 use Rattle.lane.specs.Law.{Opening}
 use Rattle.lane.specs.Logs.{has, mem}
 use Rattle.lane.specs.Phases.{master_run_step, read_step, run_step, way_step, look_step, look_even, let_go_step, step_at}
 use Rattle.lane.specs.Runs.{Ran}
-use Rattle.lane.specs.State.{Shared, Work, Seat, entries, odd, stale, first_is}
+use Rattle.lane.specs.State.{Shared, Work, entries, odd, stale, first_is}
 use Rattle.lane.specs.Tellings.{AnswersRequest, Tells, Answered}
 use Rattle.lane.specs.Worlds.{World, work_of}
 use Rattle.lane.proofs.Bodies.{Laws}

@@ -1,5 +1,5 @@
 -- The law of runs holds of every run of a book.
-use Rattle.std.proofs.Common.{◌≡◌, ℕ, zero, suc, ◌%◌, ◌<◌, ◌≤◌, Bool, true, false, cond, eqb, ltb, List, [], ◌∷◌, length, get_or, set, replicate, Some, None, Option, sym, refl, ap, ◌∙◌, subst, arith, length-set}
+use Rattle.std.proofs.Common.{◌≡◌, ℕ, ◌%◌, Bool, true, false, eqb, ltb, List, [], length, get_or, replicate, Some, None, Option, sym, refl, ◌∙◌, subst, arith, length-set}
 use mathlib.Core.Path.{fun_ext}
 use lib.ListN.{length-replicate}
 use Rattle.std.proofs.lemmas.Bool.{eqb-false, cond_both}
@@ -13,20 +13,19 @@ use Rattle.lane.specs.declared.step.LogChange.{LogChange}
 use Rattle.lane.specs.declared.step.LogChange.TheVariants.{Same, Emptied, Noted, Entered}
 use Rattle.lane.specs.declared.step.Step.{Step}
 use Rattle.lane.specs.declared.written.Written.{Written}
-use Rattle.lane.specs.Calls.{After, Opened, opening, open_refusal, open_world, seat_refusal, seat_by, seat_call, has_room, record_of, journal_after, step_world, step_now, can_step, step_by, step_call, pause_call, resume_call}
+use Rattle.lane.specs.Calls.{After, opening, open_world, seat_refusal, seat_by, seat_call, record_of, journal_after, step_world, step_now, can_step, step_by, step_call, pause_call, resume_call}
 use Rattle.lane.specs.Effects.{shared_after}
 use Rattle.lane.specs.History.{History}
 use Rattle.lane.specs.Law.{Opening, Sound}
-use Rattle.lane.specs.Logs.{mem, place}
 use Rattle.lane.specs.Runs.{Ran, opens, seats, steps, pauses, resumes}
 use Rattle.lane.specs.Sane.{Sane}
 use Rattle.lane.specs.State.{Shared}
-use Rattle.lane.specs.Worlds.{World, reads_laid, writes_laid, read_log, write_log}
+use Rattle.lane.specs.Worlds.{World, reads_laid, writes_laid}
 use Rattle.lane.proofs.Bodies.{Laws}
 use Rattle.lane.proofs.Core as core
 use Rattle.lane.proofs.Holds.{sound}
-use Rattle.lane.proofs.Sanity.{getD_none, Lent, sane_step, sane_seat, sane_pause, sane_resume, Opens, opens_well, sane_open}
-use Rattle.lane.proofs.Seen.{model, seat_view, view, kept_step, kept_seat, kept_pause, kept_resume}
+use Rattle.lane.proofs.Sanity.{getD_none, Lent, sane_step, sane_seat, sane_pause, sane_resume, opens_well, sane_open}
+use Rattle.lane.proofs.Seen.{model, view, kept_step, kept_seat, kept_pause, kept_resume}
 
 -- Calls keep the lengths of the lists ------------------------------------------
 

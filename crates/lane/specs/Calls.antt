@@ -1,5 +1,5 @@
 -- The calls of a book: when each is refused, what it answers, what it leaves, and the moment that it adds to the history.
-use Rattle.std.specs.Prelude.{◌≡◌, ℕ, zero, suc, ◌+◌, ◌*◌, ◌<◌, ◌≤◌, min, Bool, true, false, cond, not, ◌&&◌, ◌||◌, List, [], ◌∷◌, ◌++◌, length, get_or, replicate, ℤ, Some, None, Ok, Err, Option, Result, ◌==◌, nat_le, nat_lt, slice_index, slice_index_or, slice_set}
+use Rattle.std.specs.Prelude.{ℕ, zero, suc, ◌+◌, ◌*◌, min, Bool, true, false, cond, not, ◌&&◌, ◌||◌, List, [], ◌∷◌, length, get_or, replicate, ℤ, Some, None, Ok, Err, Option, Result, ◌==◌, nat_le, nat_lt, slice_index, slice_index_or, slice_set}
 use Rattle.body.specs.declared.body.Body.{Ghosts}
 use Rattle.body.specs.Tests.{within_limit}
 use Rattle.journal.specs.declared.record.Record.{Record}
@@ -23,11 +23,11 @@ use Rattle.lane.specs.declared.step.Step.{Step}
 use Rattle.lane.specs.declared.stepped.Stepped.{Stepped}
 use Rattle.lane.specs.declared.written.Written.{Written}
 use Rattle.lane.specs.Effects.{shared_after, start_after, body_after}
-use Rattle.lane.specs.History.{Call, seated, stepped, other, Moment, History}
+use Rattle.lane.specs.History.{Call, seated, stepped, other, Moment}
 use Rattle.lane.specs.Law.{Opening}
 use Rattle.lane.specs.Logs.{no_entry, most_reads, most_writes}
 use Rattle.lane.specs.Phases.{step_at}
-use Rattle.lane.specs.State.{Core, Shared, Work, entries, odd, with_pause}
+use Rattle.lane.specs.State.{Work, entries, odd, with_pause}
 use Rattle.lane.specs.declared.sizes.Sizes.{Sizes}
 use Rattle.lane.specs.Worlds.{World, reads_from, writes_from, read_log, write_log, work_of, reads_used, writes_used, reads_laid, writes_laid}
 

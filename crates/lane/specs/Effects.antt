@@ -1,5 +1,5 @@
 -- What a step does: to what the seats share, to its body, and to its logs.
-use Rattle.std.specs.Prelude.{ℕ, ◌+◌, ◌-◌, Bool, true, false, List, [], ◌∷◌, ◌++◌, ℤ, Some, None, Option}
+use Rattle.std.specs.Prelude.{ℕ, ◌+◌, ◌-◌, true, false, List, [], ◌∷◌, ◌++◌, Some, None, Option}
 use Rattle.body.specs.declared.body.Body.{Ghosts}
 use Rattle.lane.specs.declared.phase.Phase.{Phase}
 use Rattle.lane.specs.declared.step.Effect.{Effect}
@@ -11,7 +11,7 @@ use Rattle.lane.specs.declared.told.Told.{Told}
 use Rattle.lane.specs.declared.told.Told.TheVariants.{Nothing, Restarted, Handed, Taken}
 use Rattle.lane.specs.declared.written.Written.{Written}
 use Rattle.lane.specs.Logs.{enter, note}
-use Rattle.lane.specs.State.{Core, Shared, Work, Seat, mark_set, cell_set, numbered, with_core, with_flag, with_queue, without}
+use Rattle.lane.specs.State.{Shared, Work, Seat, mark_set, cell_set, numbered, with_core, with_flag, with_queue, without}
 
 -- What the seats share after seat k's step. Only the take clears the flag.
 abbrev pub shared_after : ℕ → Effect → Shared → Shared

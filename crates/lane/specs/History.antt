@@ -1,5 +1,5 @@
 -- What came to pass since a book was opened, as callers and bodies saw it.
-use Rattle.std.specs.Prelude.{◌≡◌, ℕ, zero, suc, ◌+◌, Bool, true, false, cond, List, [], ◌∷◌, ◌++◌, ℤ, pos, Some, None, Option, ◌==◌}
+use Rattle.std.specs.Prelude.{ℕ, ◌+◌, Bool, false, cond, List, [], ◌∷◌, ◌++◌, ℤ, Some, None, Option, ◌==◌}
 use Rattle.body.specs.Serial.{Commit}
 use Rattle.lane.specs.declared.answer.Answer.{Answer}
 use Rattle.lane.specs.declared.answer.Answer.TheVariants.{GoneOn, Waiting, Paused, BrokenOff, Committed, TooLong}

@@ -1,7 +1,7 @@
 -- What holds in a run beside the law: no step is refused for its lists, every amount stays within the limit, the journal has
 -- room for every record, and a commit's count is right.
 use Rattle.std.specs.Prelude.{◌≡◌, ℕ, ◌+◌, ◌≤◌, true, cond, List, [], ◌∷◌, ◌++◌, take, Some, None, Err, ◌==◌, ◌≢◌, slice_index_or}
-use Rattle.std.specs.List.{AllByRecursion as All}
+use Rattle.std.specs.List.{AllByRecursion}
 use Rattle.body.specs.declared.body.Body.{Ghosts}
 use Rattle.body.specs.Meaning.{Within}
 use Rattle.journal.specs.declared.record.Record.{Record}
@@ -30,7 +30,7 @@ module _ {B : Type 0} (m : Ghosts B) where
     -- No step is refused for a list of another length, or for a log with an entry of no cell of the book.
     pub never_refused : (k : ℕ) → step_reply m w k ≢ Err Lists
     -- Every amount in a cell is within the limit.
-    pub within : All Within w.shared.core.cells
+    pub within : AllByRecursion Within w.shared.core.cells
     -- A step that makes a record finds room for it in the journal: every change and every commit is recorded.
     pub room : (k : ℕ) (s : Seated) (b : B) (r : Record) → k ≤ w.helpers → slice_index_or w.seats k None ≡ Some s → slice_index_or w.bodies k None ≡ Some b
         → record_of m w k s (step_now m w k s b) ≡ Some r → has_room m w ≡ true

@@ -1,13 +1,13 @@
 -- The law of runs: what a book promises to whoever believes its numbered commits. It speaks of calls, tellings, commits, words
 -- and cells, and of nothing inside the book.
-use Rattle.std.specs.Prelude.{◌≡◌, ℕ, ◌+◌, ◌*◌, ◌%◌, ◌<◌, ◌≤◌, Bool, true, false, List, [], ◌∷◌, ◌++◌, ℤ, pos, Some, ◌≢◌, slice_index_or}
+use Rattle.std.specs.Prelude.{◌≡◌, ℕ, ◌+◌, ◌*◌, ◌%◌, ◌<◌, ◌≤◌, true, false, List, ◌∷◌, ◌++◌, ℤ, pos, Some, ◌≢◌, slice_index_or}
 use Rattle.body.specs.declared.body.Body.{Ghosts}
 use Rattle.lane.specs.declared.answer.Answer.{Answer}
 use Rattle.lane.specs.declared.answer.Answer.TheVariants.{BrokenOff, Committed}
-use Rattle.body.specs.Serial.{Commit, leaves, Agrees, ordered, upto}
+use Rattle.body.specs.Serial.{leaves, Agrees, ordered, upto}
 use Rattle.lane.specs.declared.told.Told.{Told}
 use Rattle.lane.specs.declared.told.Told.TheVariants.{Handed}
-use Rattle.lane.specs.History.{Call, stepped, Moment, History, number_after, flag_after, body_of, attempt, start_of, own_or, commits, steps_of}
+use Rattle.lane.specs.History.{stepped, Moment, History, number_after, flag_after, body_of, attempt, start_of, own_or, commits, steps_of}
 
 -- The amounts and the number that a book was opened with.
 pub record Opening : Type 0 where

@@ -1,5 +1,5 @@
 -- Logs of a helper's attempt: the cells that it read, and the amounts that it is to write. No log has a cell twice.
-use Rattle.std.specs.Prelude.{ℕ, suc, ◌+◌, Bool, true, false, cond, ◌||◌, List, [], ◌∷◌, ◌++◌, ℤ, pos, Some, None, Option, ◌==◌, slice_set}
+use Rattle.std.specs.Prelude.{ℕ, suc, ◌+◌, Bool, false, cond, ◌||◌, List, [], ◌∷◌, ◌++◌, ℤ, pos, Some, None, Option, ◌==◌, slice_set}
 use Rattle.lane.specs.declared.written.Written.{Written}
 
 -- Both logs are lists of entries that tell their cell. Whether a log has a cell, and where, or behind its end.

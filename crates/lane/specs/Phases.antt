@@ -1,6 +1,6 @@
 -- The steps, one function a phase: where the seat goes, what the step answers, what it tells the body, what it does to the
 -- seat's logs, and the one thing that it changes of what the seats share.
-use Rattle.std.specs.Prelude.{ℕ, zero, suc, ◌+◌, Bool, true, false, cond, not, ◌&&◌, List, length, get_or, ℤ, pos, Some, None, Option, ◌==◌, nat_le, nat_lt, slice_index, slice_index_or}
+use Rattle.std.specs.Prelude.{ℕ, ◌+◌, Bool, cond, not, ◌&&◌, List, length, get_or, ℤ, pos, Some, None, Option, ◌==◌, nat_le, nat_lt, slice_index, slice_index_or}
 use Rattle.body.specs.declared.body.Body.{Ghosts}
 use Rattle.body.specs.declared.request.Request.{Request}
 use Rattle.body.specs.declared.request.Request.TheVariants.{Read, Write, End}
@@ -15,9 +15,7 @@ use Rattle.lane.specs.declared.step.Effect.TheVariants.{Unchanged, FlagSet, Lane
 use Rattle.lane.specs.declared.step.LogChange.{LogChange}
 use Rattle.lane.specs.declared.step.LogChange.TheVariants.{Same, Emptied, Noted, Entered}
 use Rattle.lane.specs.declared.step.Step.{Step}
-use Rattle.lane.specs.declared.told.Told.{Told}
 use Rattle.lane.specs.declared.told.Told.TheVariants.{Nothing, Restarted, Handed, Taken}
-use Rattle.lane.specs.declared.written.Written.{Written}
 use Rattle.lane.specs.Logs.{has, lookup, mem, no_entry, most_reads, most_writes}
 use Rattle.lane.specs.State.{Shared, Work, entries, odd, base, stale, first_is}
 

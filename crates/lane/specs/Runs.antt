@@ -1,5 +1,5 @@
 -- Runs of a book: opened, and then any of its calls in any turn, each lent the lists as the call before left them.
-use Rattle.std.specs.Prelude.{◌≡◌, ℕ, List, [], ◌∷◌, None}
+use Rattle.std.specs.Prelude.{◌≡◌, ℕ, [], ◌∷◌, None}
 use Rattle.body.specs.declared.body.Body.{Ghosts}
 use Rattle.lane.specs.Calls.{Opened, opening, open_refusal, open_world, seat_call, step_call, pause_call, resume_call}
 use Rattle.lane.specs.History.{History}

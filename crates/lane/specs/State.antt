@@ -1,5 +1,5 @@
 -- What the seats of a book share, and what a seat has of its own.
-use Rattle.std.specs.Prelude.{ℕ, ◌-◌, ◌%◌, Bool, true, false, cond, List, [], ◌∷◌, ◌++◌, length, ℤ, pos, ◌==◌, nat_lt, slice_index, slice_set}
+use Rattle.std.specs.Prelude.{ℕ, ◌-◌, ◌%◌, Bool, false, cond, List, [], ◌∷◌, ◌++◌, length, ℤ, ◌==◌, nat_lt, slice_index, slice_set}
 use Rattle.lane.specs.declared.phase.Phase.{Phase}
 use Rattle.lane.specs.declared.phase.Way.{Way}
 use Rattle.lane.specs.declared.written.Written.{Written}

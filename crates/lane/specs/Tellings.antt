@@ -1,12 +1,11 @@
 -- The tellings that a history records are real: the body was told just that, and asked for it.
-use Rattle.std.specs.Prelude.{◌≡◌, ℕ, List, ℤ, Some, None, Option, slice_index_or, slice_set}
+use Rattle.std.specs.Prelude.{◌≡◌, List, Some, None, Option, slice_index_or, slice_set}
 use Rattle.body.specs.declared.body.Body.{Ghosts}
 use Rattle.body.specs.declared.request.Request.TheVariants.{Read, Write}
 use Rattle.lane.specs.declared.told.Told.{Told}
 use Rattle.lane.specs.declared.told.Told.TheVariants.{Nothing, Restarted, Handed, Taken}
 use Rattle.lane.specs.Effects.{body_after}
 use Rattle.lane.specs.History.{Call, seated, stepped, other}
-use Rattle.lane.specs.Worlds.{World}
 
 module _ {B : Type 0} (m : Ghosts B) where
   -- An amount is handed to a body that asks to read that cell, and a write is taken of a body that asks for just that.

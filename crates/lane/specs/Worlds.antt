@@ -1,5 +1,5 @@
 -- A book with the lists that are lent to it, as its calls see them; and where in the long lists each helper's logs lie.
-use Rattle.std.specs.Prelude.{ℕ, zero, suc, ◌+◌, ◌-◌, ◌*◌, Bool, true, false, cond, eqb, List, [], ◌∷◌, ◌++◌, length, get_or, take, drop, set, ℤ, Some, None, Option}
+use Rattle.std.specs.Prelude.{ℕ, ◌-◌, ◌*◌, List, take, drop, Option}
 use Rattle.journal.specs.declared.record.Record.{Record}
 use Rattle.lane.specs.declared.seated.Seated.{Seated}
 use Rattle.lane.specs.declared.sizes.Sizes.{Sizes}
@@ -7,7 +7,7 @@ use Rattle.lane.specs.declared.step.LogChange.{LogChange}
 use Rattle.lane.specs.declared.step.LogChange.TheVariants.{Same, Emptied, Noted, Entered}
 use Rattle.lane.specs.declared.written.Written.{Written}
 use Rattle.lane.specs.Logs.{laid, used_with, cell_of, itself, most_reads, most_writes}
-use Rattle.lane.specs.State.{Core, Shared, Work, Seat}
+use Rattle.lane.specs.State.{Shared, Work}
 
 -- Seats are numbered from 0, the master's. A seat is idle where there is no transaction; the body of its last one stays.
 -- The first `used` records of the journal are used.

@@ -1,4 +1,7 @@
 // The lane: what a step of a seat is, what history tells of steps, and the law of runs.
+
+#![tactic(auto)]
+
 mod answer;
 mod numbers;
 mod phase;
