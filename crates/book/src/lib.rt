@@ -1,4 +1,6 @@
 // The book: cells of money, one master and up to eight helpers.
+#![tactic(auto)]
+
 mod acting;
 mod book;
 mod calls;

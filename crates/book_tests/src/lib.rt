@@ -1,5 +1,7 @@
 // A book is run: the worked examples, the refusals of its calls, and helpers that queue. Expected values come from
 // docs/MACHINE.md and docs/REFUSALS.md.
+#![tactic(auto)]
+
 #[cfg(test)]
 mod examples;
 #[cfg(test)]

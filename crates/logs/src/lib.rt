@@ -1,4 +1,6 @@
 // Logs: entries that tell their cell, over a lent stretch of a long list.
+#![tactic(auto)]
+
 mod amounts;
 mod entry;
 mod log;

@@ -1,4 +1,6 @@
 // Books the import text on standard input, and prints the journal.
+#![tactic(auto)]
+
 use input::read_at_most;
 use posts::post;
 use std::io::Write;

@@ -1,4 +1,6 @@
 // The queue of helpers that joined and have not left, oldest first.
+#![tactic(auto)]
+
 mod line;
 mod turns;
 

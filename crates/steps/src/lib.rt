@@ -1,4 +1,6 @@
 // The steps of seats, one function a phase. Each answers what the step does, and changes nothing itself.
+#![tactic(auto)]
+
 mod forms;
 mod helper;
 mod master;

@@ -1,4 +1,6 @@
 // The worked examples of the machine, of amounts and of imports, as one table that the check computes.
+#![tactic(auto)]
+
 ghost use Rattle.std.specs.Prelude.{◌≡◌, ℕ};
 ghost use Rattle.worked.specs.Planned.{FollowsItself};
 ghost use Rattle.worked.specs.Worked.{Worked};

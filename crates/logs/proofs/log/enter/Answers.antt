@@ -10,12 +10,12 @@ returns g c =
     let cell = g.E.Entry.cell in
     let s = c.args.stretch.now in
     let r =
-    enters_at cell (cell c.args.entry) s c.args.used c.min-end.result c.unwrap-or-at.result c.min-end.ensures
-    (c.unwrap-or-at.ensures ∙ ap (λ z. unwrap_or z c.min-end.result) (c.find-found.ensures ∙ ap (λ z. found cell z (take (c.min-end.result - 0) s)) c.cell-of.ensures)) in
+    enters_at cell (cell c.args.entry) s c.args.used c.min-end.result c.unwrap_or-at.result c.min-end.ensures
+    (c.unwrap_or-at.ensures ∙ ap (λ z. unwrap_or z c.min-end.result) (c.find-found.ensures ∙ ap (λ z. found cell z (take (c.min-end.result - 0) s)) c.cell_of.ensures)) in
     record {
       laid = elim c.if-at-stretch.branch [
         | then-at-stretch w ↦ w.stretch-is ∙ ap (λ z. set s z c.args.entry) r.0
-        | else-at-stretch w ↦ w.stretch-is ∙ sym (set_out s c.unwrap-or-at.result c.args.entry w.if-at-stretch.false) ∙ ap (λ z. set s z c.args.entry) r.0
+        | else-at-stretch w ↦ w.stretch-is ∙ sym (set_out s c.unwrap_or-at.result c.args.entry w.if-at-stretch.false) ∙ ap (λ z. set s z c.args.entry) r.0
       ];
       grown = r.1;
     }

@@ -7,14 +7,14 @@ use Rattle.logs.proofs.log.find.Goals as goal
 pub loop-i-init : goal.loop-i-init
 loop-i-init g c = refl
 
-pub returns-then-cell-of-cell : goal.returns-then-cell-of-cell
-returns-then-cell-of-cell g c =
-    let r = found_here g.E.Entry.cell c.args.cell c.loop-i.i c.args.log.now c.index-log-i.result c.loop-i-test.true (ap g.E.Entry.cell (sym c.index-log-i.is) ∙ sym c.cell-of.ensures ∙ c.if-cell-of-cell.true) c.loop-i.invariant in
+pub returns-then-cell_of-cell : goal.returns-then-cell_of-cell
+returns-then-cell_of-cell g c =
+    let r = found_here g.E.Entry.cell c.args.cell c.loop-i.i c.args.log.now c.index-log-i.result c.loop-i-test.true (ap g.E.Entry.cell (sym c.index-log-i.is) ∙ sym c.cell_of.ensures ∙ c.if-cell_of-cell.true) c.loop-i.invariant in
     rw (r.0, r.1)
 
 pub loop-i-preserved : goal.loop-i-preserved
 loop-i-preserved g c =
-    rw add-one (passed_more g.E.Entry.cell c.args.cell c.loop-i.i c.args.log.now c.index-log-i.result c.loop-i-test.true (λ e. c.if-cell-of-cell.false (c.cell-of.ensures ∙ ap g.E.Entry.cell c.index-log-i.is ∙ e)) c.loop-i.invariant)
+    rw add-one (passed_more g.E.Entry.cell c.args.cell c.loop-i.i c.args.log.now c.index-log-i.result c.loop-i-test.true (λ e. c.if-cell_of-cell.false (c.cell_of.ensures ∙ ap g.E.Entry.cell c.index-log-i.is ∙ e)) c.loop-i.invariant)
 
 pub returns : goal.returns
 returns g c =

@@ -7,14 +7,14 @@ use Rattle.queue.proofs.line.Queue.leave.Goals.{then-self-i, else-self-i}
 pub loop-i-init : goal.loop-i-init
 loop-i-init c = (refl, omega arith, omega arith)
 
-pub offset-bounds-seats-kept : goal.offset-bounds-seats-kept
-offset-bounds-seats-kept c = let h = c.loop-i.invariant.1 in search rules
+pub offset_bounds-seats-kept : goal.offset_bounds-seats-kept
+offset_bounds-seats-kept c = let h = c.loop-i.invariant.1 in search rules
 
 pub bounds-seats-kept : goal.bounds-seats-kept
 bounds-seats-kept c = omega (arith, c.loop-i.invariant.1, c.loop-i-test.true, c.args.self.now.within)
 
-pub overflow-add-kept : goal.overflow-add-kept
-overflow-add-kept c = let h = c.loop-i.invariant.1 in search rules
+pub overflow_add-kept : goal.overflow_add-kept
+overflow_add-kept c = let h = c.loop-i.invariant.1 in search rules
 
 pub loop-i-preserved : goal.loop-i-preserved
 loop-i-preserved c =
@@ -31,8 +31,8 @@ loop-i-preserved c =
           (ap (λ n. take n c.if-self-i.seats) w.kept-is ∙ ap (λ z. take c.loop-i.kept z) w.seats-is ∙ p, omega (arith, w.kept-is, e.1), ap length w.seats-is ∙ e.2)
     ]
 
-pub invariant-of-self : goal.invariant-of-self
-invariant-of-self c = (omega (arith, c.loop-i.invariant.1, c.loop-i.auto.i-end, c.args.self.now.within), tt)
+pub invariant_of-self : goal.invariant_of-self
+invariant_of-self c = record { within = omega (arith, c.loop-i.invariant.1, c.loop-i.auto.i-end, c.args.self.now.within) }
 
 pub returns : goal.returns
 returns c =
