@@ -1,5 +1,7 @@
 // Tables for the kinds of body: what each does alone, what it answers to wrong tellings, and which are refused. Expected values
 // come from docs/BODIES.md and docs/REFUSALS.md.
+#![tactic(auto)]
+
 #[cfg(test)]
 mod alone;
 #[cfg(test)]

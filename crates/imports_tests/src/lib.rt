@@ -1,4 +1,6 @@
 // Examples and tables for amounts, import texts and their listings. Expected values come from docs/FORMATS.md and docs/REFUSALS.md.
+#![tactic(auto)]
+
 #[cfg(test)]
 mod amounts;
 #[cfg(test)]
