@@ -11,7 +11,7 @@ pub enum Tellings {
     Wrong,
 }
 
-// Asks at most so many times, and answers each request.
+// Asks at most so many times, and answers each request. A failure tells by these words which run it is.
 fn answer<B: Body>(
     rt: &impl Abort,
     body: &mut B,
@@ -19,18 +19,19 @@ fn answer<B: Body>(
     tellings: Tellings,
     cells: &mut [i64],
     handed: &mut Vec<i64>,
+    words: &str,
 ) -> Result<(), Fail> {
     for _ in 0..turns {
         let asked = body.request();
         // Being asked changes nothing.
-        assert_eq!(rt; body.request(), asked);
+        assert_eq!(rt; body.request(), asked, "{words}");
         match asked {
             Request::Read(cell) => {
                 if let Tellings::Wrong = tellings {
                     body.took();
-                    assert_eq!(rt; body.request(), asked);
+                    assert_eq!(rt; body.request(), asked, "{words}");
                 }
-                assert!(rt; cell < cells.len());
+                assert!(rt; cell < cells.len(), "{words}");
                 handed.push(cells[cell])?;
                 body.tell(cells[cell]);
             }
@@ -38,9 +39,9 @@ fn answer<B: Body>(
                 if let Tellings::Wrong = tellings {
                     body.tell(amount);
                     body.tell(7);
-                    assert_eq!(rt; body.request(), asked);
+                    assert_eq!(rt; body.request(), asked, "{words}");
                 }
-                assert!(rt; cell < cells.len());
+                assert!(rt; cell < cells.len(), "{words}");
                 cells[cell] = amount;
                 body.took();
             }
@@ -48,7 +49,7 @@ fn answer<B: Body>(
                 if let Tellings::Wrong = tellings {
                     body.tell(7);
                     body.took();
-                    assert_eq!(rt; body.request(), asked);
+                    assert_eq!(rt; body.request(), asked, "{words}");
                 }
             }
         }
@@ -57,6 +58,7 @@ fn answer<B: Body>(
 }
 
 // Restarted and run alone on these cells, the body is handed these amounts, leaves these cells and ends within its length.
+// A failure tells by these words which run it is.
 pub(crate) fn runs<B: Body>(
     rt: &impl Abort,
     heap: Global,
@@ -65,6 +67,7 @@ pub(crate) fn runs<B: Body>(
     cells: &[i64],
     handed: &[i64],
     left: &[i64],
+    words: &str,
 ) -> Result<(), Fail> {
     let mut now = cells.to_vec(heap)?;
     let mut amounts = Vec::new(heap);
@@ -76,10 +79,11 @@ pub(crate) fn runs<B: Body>(
         tellings,
         now.as_mut_slice(),
         &mut amounts,
+        words,
     )?;
-    assert!(rt; amounts.as_slice() == handed, "what was handed");
-    assert!(rt; now.as_slice() == left, "the cells");
-    assert_eq!(rt; body.request(), Request::End);
+    assert!(rt; amounts.as_slice() == handed, "what was handed {words}");
+    assert!(rt; now.as_slice() == left, "the cells {words}");
+    assert_eq!(rt; body.request(), Request::End, "{words}");
     Ok(())
 }
 
@@ -92,8 +96,26 @@ pub(crate) fn does<B: Body>(
     handed: &[i64],
     left: &[i64],
 ) -> Result<(), Fail> {
-    runs(rt, heap, body, Tellings::Right, cells, handed, left)?;
-    runs(rt, heap, body, Tellings::Wrong, cells, handed, left).note("with wrong tellings")?;
+    runs(
+        rt,
+        heap,
+        body,
+        Tellings::Right,
+        cells,
+        handed,
+        left,
+        "from the start on",
+    )?;
+    runs(
+        rt,
+        heap,
+        body,
+        Tellings::Wrong,
+        cells,
+        handed,
+        left,
+        "with wrong tellings",
+    )?;
     for turns in 0..body.length_of() {
         let mut now = cells.to_vec(heap)?;
         let mut amounts = Vec::new(heap);
@@ -105,8 +127,18 @@ pub(crate) fn does<B: Body>(
             Tellings::Right,
             now.as_mut_slice(),
             &mut amounts,
+            "before a restart",
         )?;
-        runs(rt, heap, body, Tellings::Right, cells, handed, left).note("after a restart")?;
+        runs(
+            rt,
+            heap,
+            body,
+            Tellings::Right,
+            cells,
+            handed,
+            left,
+            "after a restart",
+        )?;
     }
     Ok(())
 }

@@ -243,6 +243,7 @@ fn totals_all(rt: &impl Abort, heap: Global, cells: &[i64], amount: i64) -> Resu
         cells,
         cells,
         left.as_slice(),
+        "from the start on",
     )?;
     runs(
         rt,
@@ -252,6 +253,7 @@ fn totals_all(rt: &impl Abort, heap: Global, cells: &[i64], amount: i64) -> Resu
         cells,
         cells,
         left.as_slice(),
+        "with wrong tellings",
     )
 }
 

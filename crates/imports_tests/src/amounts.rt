@@ -7,14 +7,18 @@ const FORM: Result<i64, AmountFault> = Err(AmountFault::Form);
 
 const LIMIT: Result<i64, AmountFault> = Err(AmountFault::Limit);
 
+// A failure tells the field by these words.
 fn reads(
     rt: &impl Abort,
     code: &str,
     field: &[u8],
     answer: Result<i64, AmountFault>,
+    words: &str,
 ) -> Result<(), Fail> {
-    let code = Code::new(code.as_bytes()).ok_or("no code")?;
-    assert_eq!(rt; read_amount(code, field), answer);
+    let Some(code) = Code::new(code.as_bytes()) else {
+        return Err(Fail::new(format_args!("no code: {words}")));
+    };
+    assert_eq!(rt; read_amount(code, field), answer, "{words}");
     Ok(())
 }
 
@@ -64,7 +68,7 @@ fn two_digits(rt: HostRuntime) -> Result<(), Fail> {
         (":.00", FORM),
     ];
     for (field, answer) in table {
-        reads(&rt, "DKK", field.as_bytes(), answer).note(field)?;
+        reads(&rt, "DKK", field.as_bytes(), answer, field)?;
     }
     Ok(())
 }
@@ -89,17 +93,17 @@ fn no_digits(rt: HostRuntime) -> Result<(), Fail> {
         ("1-", FORM),
     ];
     for (field, answer) in table {
-        reads(&rt, "JPY", field.as_bytes(), answer).note(field)?;
+        reads(&rt, "JPY", field.as_bytes(), answer, field)?;
     }
     Ok(())
 }
 
 #[test]
 fn bytes_above_127(rt: HostRuntime) -> Result<(), Fail> {
-    reads(&rt, "DKK", b"\xff1.00", FORM)?;
-    reads(&rt, "DKK", b"1\x80.00", FORM)?;
-    reads(&rt, "DKK", b"1.0\xb0", FORM)?;
-    reads(&rt, "JPY", b"\xb1", FORM)
+    reads(&rt, "DKK", b"\xff1.00", FORM, "255 in front")?;
+    reads(&rt, "DKK", b"1\x80.00", FORM, "128 before the point")?;
+    reads(&rt, "DKK", b"1.0\xb0", FORM, "176 at the end")?;
+    reads(&rt, "JPY", b"\xb1", FORM, "177 alone")
 }
 
 #[test]
@@ -125,7 +129,7 @@ fn codes(rt: HostRuntime) {
             Some(code) => Some(code.places()),
             None => None,
         };
-        assert_eq!(rt; found, places, "{}", letters);
+        assert_eq!(rt; found, places, "{letters}");
     }
 }
 
@@ -146,6 +150,6 @@ fn numbers(rt: HostRuntime) {
         ("1 ", None),
     ];
     for (field, number) in table {
-        assert_eq!(rt; read_number(field.as_bytes()), number, "{}", field);
+        assert_eq!(rt; read_number(field.as_bytes()), number, "{field}");
     }
 }

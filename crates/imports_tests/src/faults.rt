@@ -1,12 +1,12 @@
 // Texts with each refusal at its first and last place, and the texts beside them that are admitted.
-use super::texts::{admitted, refused};
+use super::texts::{admitted, refused_as};
 use std::alloc::Global;
 use std::process::Abort;
 use std::test::Fail;
 
 fn refuse_each(rt: &impl Abort, heap: Global, table: &[(&str, u32, u32)]) -> Result<(), Fail> {
     for (text, line, number) in table.iter().copied() {
-        refused(rt, heap, text.as_bytes(), line, number).note(text)?;
+        refused_as(rt, heap, text.as_bytes(), line, number, text)?;
     }
     Ok(())
 }

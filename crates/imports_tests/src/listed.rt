@@ -7,7 +7,7 @@ use std::test::Fail;
 
 fn lists(rt: &impl Abort, heap: Global, text: &str, out: &str) -> Result<(), Fail> {
     let listed = listing(heap, text.as_bytes().to_vec(heap)?)?;
-    assert!(rt; listed.as_str() == out, "{}", text);
+    assert!(rt; listed.as_str() == out, "{text}");
     Ok(())
 }
 

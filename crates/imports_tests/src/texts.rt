@@ -12,12 +12,24 @@ pub(crate) fn refused(
     line: u32,
     number: u32,
 ) -> Result<(), Fail> {
+    refused_as(rt, heap, text, line, number, "the text")
+}
+
+// The same, and a failure tells the text by these words.
+pub(crate) fn refused_as(
+    rt: &impl Abort,
+    heap: Global,
+    text: &[u8],
+    line: u32,
+    number: u32,
+    words: &str,
+) -> Result<(), Fail> {
     match check(text.to_vec(heap)?) {
-        Ok(_) => Err(Fail::new("the text is admitted")),
+        Ok(_) => Err(Fail::new(format_args!("the text is admitted: {words}"))),
         Err(fault) => {
-            assert_eq!(rt; (fault.line(), fault.number()), (line, number));
+            assert_eq!(rt; (fault.line(), fault.number()), (line, number), "{words}");
             Ok(())
-        },
+        }
     }
 }
 
@@ -37,7 +49,7 @@ pub(crate) fn admitted(
                 (count, reach, length)
             );
             Ok(())
-        },
+        }
         Err(fault) => {
             assert_eq!(rt;
                 (fault.line(), fault.number()),
@@ -45,6 +57,6 @@ pub(crate) fn admitted(
                 "the text is refused"
             );
             Ok(())
-        },
+        }
     }
 }

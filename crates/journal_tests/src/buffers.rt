@@ -36,8 +36,15 @@ pub(crate) fn writes(
     let end = expected.len();
     push_markers(&mut expected, behind)?;
     let mut buffer = marked(heap, expected.len())?;
-    assert_eq!(rt; line(journal, i, buffer.as_mut_slice(), before), Ok(end));
-    assert!(rt; buffer.as_slice() == expected.as_slice(), "the buffer");
+    assert_eq!(rt;
+        line(journal, i, buffer.as_mut_slice(), before),
+        Ok(end),
+        "{text}"
+    );
+    assert!(rt;
+        buffer.as_slice() == expected.as_slice(),
+        "the buffer: {text}"
+    );
     Ok(())
 }
 

@@ -47,7 +47,7 @@ fn changes(rt: HostRuntime) -> Result<(), Fail> {
             cell,
             amount,
         }];
-        writes(&rt, heap, &journal, 0, text, 3, 5).note(text)?;
+        writes(&rt, heap, &journal, 0, text, 3, 5)?;
     }
     Ok(())
 }
@@ -88,7 +88,7 @@ fn commits(rt: HostRuntime) -> Result<(), Fail> {
             tag,
             count,
         }];
-        writes(&rt, heap, &journal, 0, text, 3, 5).note(text)?;
+        writes(&rt, heap, &journal, 0, text, 3, 5)?;
     }
     Ok(())
 }

@@ -35,7 +35,7 @@ fn each_record(rt: HostRuntime) -> Result<(), Fail> {
     let heap = rt.alloc();
     for (i, text) in [(0, FIRST), (1, SECOND), (2, THIRD)] {
         for (before, behind) in [(0, 0), (0, 1), (1, 0), (1, 1), (0, 100), (100, 0), (64, 37)] {
-            writes(&rt, heap, &JOURNAL, i, text, before, behind).note(text)?;
+            writes(&rt, heap, &JOURNAL, i, text, before, behind)?;
         }
     }
     Ok(())
@@ -62,7 +62,9 @@ fn one_after_another(rt: HostRuntime) -> Result<(), Fail> {
     assert_eq!(rt; place, 22);
     let place = line(&JOURNAL, 2, buffer.as_mut_slice(), place)?;
     assert_eq!(rt; place, 35);
-    assert!(rt; buffer.as_slice() == b"W\t7\t3\t-1250\nW\t7\t0\t250\nC\t7\t1\t2\t40\t2\n");
+    assert!(rt;
+        buffer.as_slice() == b"W\t7\t3\t-1250\nW\t7\t0\t250\nC\t7\t1\t2\t40\t2\n".as_slice()
+    );
     Ok(())
 }
 
