@@ -1,5 +1,5 @@
 -- A total follows its plan, and what the plan does alone. Assumes nothing.
-use Rattle.std.proofs.Common.{◌≡◌, ℕ, zero, suc, ◌+◌, ◌-◌, ◌*◌, ◌^◌, ◌<◌, ◌≤◌, Bool, true, false, cond, ℤ, pos, negsuc, ◌+ℤ◌, nat_abs, sym, refl, ap, ◌∙◌, subst, add-one, arith, rules}
+use Rattle.std.proofs.Common.{◌≡◌, ℕ, zero, suc, ◌+◌, ◌-◌, ◌*◌, ◌^◌, ◌<◌, ◌≤◌, Bool, true, false, cond, ℤ, pos, negsuc, ◌+ℤ◌, nat_abs, sym, refl, ap, ◌∙◌, subst, add-one, arith}
 use Rattle.std.specs.Int.{saturate_to_bits}
 use Rattle.std.proofs.lemmas.Int.{ints}
 use Rattle.std.proofs.lemmas.Bool.{le-leb, lt-ltb, le-ltb, leb-true}
@@ -8,10 +8,9 @@ use Rattle.body.specs.declared.request.Request.TheVariants as requests
 use Rattle.body.specs.declared.sum.Total.{Total}
 use Rattle.body.specs.declared.sum.TotalStep.{TotalStep}
 use Rattle.body.specs.declared.sum.TotalStep.TheVariants.{Read, Write, Done}
-use Rattle.body.specs.Meaning.{Lawful}
 use Rattle.body.specs.Plans.{Plan, write, end, Follows}
 use Rattle.body.specs.Tests.{within_limit}
-use Rattle.body.specs.Totals.{sum_written, summed, total_plan, stepped, sum_known, sum_next, total_told_at, total_members, total_asks, total_told, total_taken, total_begin, total_left, total_reach, total_len}
+use Rattle.body.specs.Totals.{sum_written, summed, total_plan, stepped, sum_known, sum_next, total_told_at, total_members}
 
 -- a number that fits is not changed by a sum that stops at the bounds
 pub saturated_fits : (z : ℤ) → nat_abs z < 2 ^ 63 → saturate_to_bits 63 z ≡ z
@@ -74,7 +73,3 @@ module _ (t : Total) where
 -- a total whose range does not run backward follows its plan from its start on
 pub follows_total : (t : Total) → t.first ≤ t.last → t.last ≤ 4095 → At t (total_plan t.first t.last t.target) (Read t.first (pos 0))
 follows_total t order few = follows_sum t (t.last - t.first) t.first (pos 0) (omega arith) (omega arith)
-
--- the laws
-pub total_lawful : Lawful total_asks total_told total_taken total_begin total_left total_reach total_len
-total_lawful = search rules

@@ -6,7 +6,8 @@ use Rattle.body.specs.declared.sum.TotalStep.TheVariants.{Done}
 use Rattle.body.specs.Totals.{total_members, total_plan}
 use Rattle.body.proofs.Alone.{runs_alone, runs_as}
 use Rattle.body.proofs.Doing.{does_total}
-use Rattle.body.proofs.Totalled.{follows_total, total_lawful}
+use Rattle.body.specs.TotalLaws.{total_lawful}
+use Rattle.body.proofs.Totalled.{follows_total}
 use Rattle.body.proofs.sum.Total.new.Goals as goal
 
 pub returns : goal.returns
