@@ -18,7 +18,7 @@ returns-in_err-code c =
     let told = c.in_err-code.ensures in
     let p = err_from_is_err_and c.from_residual.result c.from_residual.ensures.1 in
     let bad = MatchResult-at_err _ (FirstRowFault code_faults text) e.fault told.0 c.read_header.ensures in
-    let refused : Refused text (Line e) = subst (λ n. NamesLine text n e.fault) (sym told.1) (names_first text e.fault (omega arith) c.if-len-gt-MOST_BYTES.false bad) in
+    let refused : Refused text (Line e) = subst (λ n. NamesLine text n e.fault) (sym told.1) (names_first text e.fault (omega arith) (omega arith) bad) in
     rw (p.1, p.2) (refused, λ code ps s. not_both text code ps (Line e) s refused)
 
 pub loop-at-init : goal.loop-at-init
@@ -36,7 +36,7 @@ returns-in_err-posting c =
     let p = err_from_is_err_and c.from_residual-in_err-posting.result c.from_residual-in_err-posting.ensures.1 in
     let bad = MatchResult-at_err _ (FirstRowFault (row_faults (places code)) (take (length text - c.loop-at.at) (drop c.loop-at.at text))) e.fault told.0 c.read_line.ensures in
     let here = subst (λ s. FirstRowFault (row_faults (places code)) s e.fault) (take_rest text c.loop-at.at) bad in
-    let named = names_later text code (drop c.loop-at.at text) inv.ps inv.currency inv.ranges inv.sofar e.fault here (omega arith) c.if-len-gt-MOST_BYTES.false in
+    let named = names_later text code (drop c.loop-at.at text) inv.ps inv.currency inv.ranges inv.sofar e.fault here (omega arith) (omega arith) in
     let number : length inv.ps + 2 ≡ e.line = omega (arith, told.1, inv.totals.0) in
     let refused : Refused text (Line e) = subst (λ n. NamesLine text n e.fault) number named in
     rw (p.1, p.2) (refused, λ code' ps s. not_both text code' ps (Line e) s refused)
@@ -78,4 +78,4 @@ loop-at-smaller c =
 pub returns : goal.returns
 returns c =
     let inv = c.loop-at.invariant in
-    (inv.ps, done _ _ _ _ inv (omega arith) c.if-len-gt-MOST_BYTES.false, inv.totals)
+    (inv.ps, done _ _ _ _ inv (omega arith) (omega arith), inv.totals)

@@ -1,4 +1,4 @@
-use Rattle.std.proofs.Common.{[], refl, inl, inr}
+use Rattle.std.proofs.Common.{[], refl, inl, inr, arith}
 use Rattle.imports.specs.Lines.{rows}
 use Rattle.imports.proofs.FirstRow.{first_row_is, behind_row}
 use Rattle.imports.proofs.Rows.{ended, unended, rows_unended}
@@ -12,7 +12,7 @@ pub returns-then-row-gt-MOST_IN_LINE : goal.returns-then-row-gt-MOST_IN_LINE
 returns-then-row-gt-MOST_IN_LINE c =
     let cut = c.in-Some.ensures in (
       refl,
-      (ended c.in-Some.row.now, rows c.in-Some.field-0-1.now, first_row_is _ _ _ cut.0 cut.1, inr c.if-row-gt-MOST_IN_LINE.true),
+      (ended c.in-Some.row.now, rows c.in-Some.field-0-1.now, first_row_is _ _ _ cut.0 cut.1, inr (omega arith)),
     )
 
 pub returns : goal.returns
