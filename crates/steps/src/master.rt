@@ -1,5 +1,6 @@
 // The master's steps.
 ghost use Rattle.std.specs.Prelude.{◌≡◌};
+ghost use Rattle.lane.specs.Narrow.{IsNarrow};
 ghost use Rattle.lane.specs.Phases.{master_look_step, master_run_step, put_step, reserve_step, take_step};
 
 use super::forms::{
@@ -39,16 +40,23 @@ pub fn take(number: u32) -> Step
 
 // Does what the body asks. A write sets the mark, and the cell in the step after.
 pub fn master_run(number: u32, cells: &[i64], request: Request) -> Step
+    requires { IsNarrow request }
     ensures { result ≡ master_run_step number cells.now request }
 {
     match request {
-        Request::Read(cell) => handing(
-            cell,
-            amount_at(cells, cell),
-            LogChange::Same,
-            Phase::MasterRun,
-        ),
-        Request::Write(cell, amount) => doing(Effect::MarkSet(cell), Phase::Put { cell, amount }),
+        Request::Read(cell) => {
+            let cell = cell as u32;
+            handing(
+                cell,
+                amount_at(cells, cell),
+                LogChange::Same,
+                Phase::MasterRun,
+            )
+        }
+        Request::Write(cell, amount) => {
+            let cell = cell as u32;
+            doing(Effect::MarkSet(cell), Phase::Put { cell, amount })
+        }
         Request::End => committing(number, Effect::NumberRaised, None),
     }
 }
