@@ -14,6 +14,9 @@ module _ {B : Type 0} (w : World B) (h : ∥ Sane w ∥₁) where
   pub few_helpers : w.helpers ≤ 8
   few_helpers = ∥∥₁_elim h le_prop (λ i. i.sized.few)
 
+  pub few_cells : w.sizes.cells ≤ 4096
+  few_cells = ∥∥₁_elim h le_prop (λ i. i.sized.few_cells)
+
   pub small_number : w.shared.core.number ≤ 2147483618
   small_number = ∥∥₁_elim h le_prop (λ i. omega (arith, i.below))
 

@@ -1,6 +1,7 @@
 // The step that a seat is to take.
 ghost use Rattle.std.specs.Prelude.{◌≡◌, ◌≤◌, ◌++◌, length, slice_index, slice_index_or};
 ghost use Rattle.lane.specs.Logs.{cells_of, no_entry};
+ghost use Rattle.lane.specs.Narrow.{IsNarrow};
 ghost use Rattle.lane.specs.Phases.{cell_step, run_step, step_at};
 ghost use Rattle.lane.specs.State.{stale_in};
 ghost use Rattle.book.specs.Views.{shared_of, work_with};
@@ -29,6 +30,7 @@ pub(crate) fn decide<B: Body>(
 ) -> Step
     requires reads { length sight.reads.now ≤ 64 }
     requires writes { length sight.writes.now ≤ 32 }
+    requires narrow { IsNarrow (B.Body.asks body.now) }
     ensures { result ≡ step_at B.Body (shared_of common sight.entry.cells.now sight.entry.marks.now) seat (work_with body.now seated sight.entry.reads.now sight.entry.writes.now) seated.phase }
 {
     match seated.phase {
@@ -71,19 +73,26 @@ pub(crate) fn decide<B: Body>(
 
 // What a helper's body asks for.
 fn run(common: Common, sight: Sight<'_>, seated: Seated, request: Request) -> Step
-    requires { length sight.writes.now ≤ 32 }
+    requires writes { length sight.writes.now ≤ 32 }
+    requires narrow { IsNarrow request }
     ensures { result ≡ run_step (shared_of common sight.entry.cells.now sight.entry.marks.now) (work_with (tt {0}) seated sight.entry.reads.now sight.entry.writes.now) request }
 {
     let written = sight.writes.len() as u32;
     match request {
-        Request::Read(cell) => steps::read(sight.cells, cell, lookup(sight.writes, cell)),
-        Request::Write(cell, amount) => steps::write(
-            is_stale(sight.marks, seated.start, cell),
-            has(sight.writes, cell),
-            written,
-            cell,
-            amount,
-        ),
+        Request::Read(cell) => {
+            let cell = cell as u32;
+            steps::read(sight.cells, cell, lookup(sight.writes, cell))
+        }
+        Request::Write(cell, amount) => {
+            let cell = cell as u32;
+            steps::write(
+                is_stale(sight.marks, seated.start, cell),
+                has(sight.writes, cell),
+                written,
+                cell,
+                amount,
+            )
+        }
         Request::End => steps::end(common.number, seated.way, seated.start, written),
     }
 }
