@@ -1,9 +1,9 @@
 -- What the calls of a book promise.
-use Rattle.std.specs.Prelude.{◌≡◌, ℕ, true, false, cond, List, Some, None, Ok, Err, Result, MatchResult, ◌==◌}
+use Rattle.std.specs.Prelude.{◌≡◌, ℕ, true, cond, Some, None, Ok, Err, Result, MatchResult, ◌==◌}
 use Rattle.body.specs.declared.body.Body.{Ghosts}
 use Rattle.lane.specs.declared.refusal.OpenRefusal.{OpenRefusal}
 use Rattle.lane.specs.declared.refusal.PauseRefusal.{PauseRefusal}
-use Rattle.lane.specs.Calls.{Opened, open_refusal, open_world}
+use Rattle.lane.specs.Calls.{open_refusal, open_world}
 use Rattle.lane.specs.Kept.{BeginsLaw}
 use Rattle.lane.specs.Worlds.{World}
 use Rattle.book.specs.declared.book.Book.{Book}

@@ -1,4 +1,4 @@
-use Rattle.std.proofs.Common.{◌≡◌, suc, ◌+◌, ◌-◌, ◌*◌, ◌<◌, length, get_or, drop, None, sym, ap, ◌∙◌, arith, rules}
+use Rattle.std.proofs.Common.{◌≡◌, suc, ◌-◌, ◌<◌, get_or, drop, None, ap, arith, rules}
 use Rattle.book.specs.Questions.{seat_bit, seat_word}
 use Rattle.book.proofs.Counting.{bit_one, word_small, word_next, word_none}
 use Rattle.book.proofs.questions.seat_word.Goals as goal

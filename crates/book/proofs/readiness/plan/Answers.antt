@@ -1,5 +1,5 @@
-use Rattle.std.proofs.Common.{◌≡◌, ◌*◌, true, sym, ap, ◌∙◌, arith}
-use Rattle.lane.specs.Worlds.{stretch, reads_from, writes_from}
+use Rattle.std.proofs.Common.{◌*◌, sym, ap, ◌∙◌, arith}
+use Rattle.lane.specs.Worlds.{stretch}
 use Rattle.book.proofs.Planning.{short_stretch, planned_some}
 use Rattle.book.proofs.readiness.plan.Goals as goal
 

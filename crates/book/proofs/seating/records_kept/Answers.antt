@@ -1,4 +1,4 @@
-use Rattle.std.proofs.Common.{◌≡◌, get_or, None, ap, ◌∙◌, arith, rules}
+use Rattle.std.proofs.Common.{◌≡◌, get_or, None, arith, rules}
 use Rattle.lane.specs.Calls.{kept_by}
 use Rattle.book.proofs.Keeps.{kept_next, kept_none}
 use Rattle.book.proofs.seating.records_kept.Goals as goal

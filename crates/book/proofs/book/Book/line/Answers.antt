@@ -1,4 +1,4 @@
-use Rattle.std.proofs.Common.{◌≡◌, ◌-◌, take, ap, ◌∙◌, subst}
+use Rattle.std.proofs.Common.{◌-◌, take, ap, ◌∙◌, subst}
 use Rattle.journal.specs.Refusals.{WritesLine}
 use Rattle.logs.proofs.Entering.{take_within}
 use Rattle.book.proofs.book.Book.line.Goals as goal

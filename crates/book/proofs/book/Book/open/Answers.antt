@@ -1,4 +1,4 @@
-use Rattle.std.proofs.Common.{◌≡◌, sym}
+use Rattle.std.proofs.Common.{sym}
 use borrow.Rule.Slice.Mut.{set_vals}
 use Rattle.lane.proofs.Keeping.{open_begins}
 use Rattle.book.specs.declared.lists.Lists.{Lists}

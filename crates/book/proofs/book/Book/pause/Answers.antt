@@ -1,4 +1,4 @@
-use Rattle.std.proofs.Common.{◌≡◌, true, cond, Ok, Err, Result, sym, ap, ◌∙◌}
+use Rattle.std.proofs.Common.{true, cond, Ok, Err, Result, sym, ap, ◌∙◌}
 use Rattle.lane.specs.declared.refusal.PauseRefusal.{PauseRefusal}
 use Rattle.lane.proofs.Keeping.{pause_keeps}
 use Rattle.book.specs.declared.ticket.Ticket.{Ticket}

@@ -1,7 +1,7 @@
-use Rattle.std.proofs.Common.{◌≡◌, eqb, ap, ◌∙◌}
+use Rattle.std.proofs.Common.{eqb, ap, ◌∙◌}
 use lib.Count.{ones}
 use Rattle.book.specs.declared.status.Status.{Status}
-use Rattle.book.specs.Questions.{seat_count, seat_word}
+use Rattle.book.specs.Questions.{seat_word}
 use Rattle.book.proofs.Counting.{ones_count}
 use Rattle.book.proofs.book.Book.status.Goals as goal
 

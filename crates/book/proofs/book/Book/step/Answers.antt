@@ -1,4 +1,4 @@
-use Rattle.std.proofs.Common.{◌≡◌, sym, ap, subst, rules}
+use Rattle.std.proofs.Common.{sym, subst, rules}
 use Rattle.lane.specs.Calls.{step_call}
 use Rattle.lane.specs.Tellings.{Tells}
 use Rattle.lane.specs.Worlds.{World}

@@ -1,4 +1,4 @@
-use Rattle.std.proofs.Common.{◌≡◌, sym, ◌∙◌, rules}
+use Rattle.std.proofs.Common.{◌∙◌, rules}
 use Rattle.book.specs.Views.{world}
 use Rattle.book.proofs.Deeds.{is_ready, ready_reply, ready_world, refused_reply, acts}
 use Rattle.book.proofs.desk.Desk.step.Goals as goal
