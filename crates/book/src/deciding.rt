@@ -2,7 +2,7 @@
 ghost use Rattle.std.specs.Prelude.{◌≡◌, ◌≤◌, ◌++◌, length, slice_index, slice_index_or};
 ghost use Rattle.lane.specs.Logs.{cells_of, no_entry};
 ghost use Rattle.lane.specs.Narrow.{IsNarrow};
-ghost use Rattle.lane.specs.Phases.{cell_step, run_step, step_at};
+ghost use Rattle.lane.specs.Phases.{cell_step, master_run_step, run_step, step_at};
 ghost use Rattle.lane.specs.State.{stale_in};
 ghost use Rattle.book.specs.Views.{shared_of, work_with};
 
@@ -37,7 +37,7 @@ pub(crate) fn decide<B: Body>(
         Phase::Reserve => steps::reserve(common.paused),
         Phase::MasterLook => steps::master_look(common.number),
         Phase::Take => steps::take(common.number),
-        Phase::MasterRun => steps::master_run(common.number, sight.cells, body.request()),
+        Phase::MasterRun => master(common.number, sight.cells, body.request()),
         Phase::Put { cell, amount } => steps::put(cell, amount),
         Phase::Begin => steps::begin(common.paused, common.number),
         Phase::Run => run(common, sight, seated, body.request()),
@@ -68,6 +68,18 @@ pub(crate) fn decide<B: Body>(
         Phase::LetGo => steps::let_go(seated.way),
         Phase::Quit => steps::quit(),
         Phase::Leave => steps::leave(),
+    }
+}
+
+// What the master's body asks for.
+fn master(number: u32, cells: &[i64], request: Request) -> Step
+    requires { IsNarrow request }
+    ensures { result ≡ master_run_step number cells.now request }
+{
+    match request {
+        Request::Read(cell) => steps::master_read(cells, cell as u32),
+        Request::Write(cell, amount) => steps::master_write(cell as u32, amount),
+        Request::End => steps::master_end(number),
     }
 }
 
