@@ -1,5 +1,5 @@
 -- What keeps the code of a sane book within bounds.
-use Rattle.std.proofs.Common.{◌≡◌, ℕ, ◌+◌, ◌<◌, ◌≤◌, Bool, true, false, List, length, get_or, Some, None, sym, refl, ap, ◌∙◌, subst, arith}
+use Rattle.std.proofs.Common.{◌≡◌, ℕ, ◌+◌, ◌≤◌, true, length, get_or, Some, None, sym, subst, arith}
 use mathlib.Core.Logic.{∥∥₁_elim}
 use native.Mathlib.Bridge.{le_prop}
 use Rattle.lane.specs.declared.seated.Seated.{Seated}
@@ -13,6 +13,9 @@ use Rattle.lane.proofs.Sanity.{accepted, lent_from, stretch_fits}
 module _ {B : Type 0} (w : World B) (h : ∥ Sane w ∥₁) where
   pub few_helpers : w.helpers ≤ 8
   few_helpers = ∥∥₁_elim h le_prop (λ i. i.sized.few)
+
+  pub few_cells : w.sizes.cells ≤ 4096
+  few_cells = ∥∥₁_elim h le_prop (λ i. i.sized.few_cells)
 
   pub small_number : w.shared.core.number ≤ 2147483618
   small_number = ∥∥₁_elim h le_prop (λ i. omega (arith, i.below))

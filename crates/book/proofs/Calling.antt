@@ -3,7 +3,7 @@ use Rattle.std.proofs.Common.{◌≡◌, ℕ, Bool, true, false, cond, eqb, List
 use mathlib.Core.Logic.{∥∥₁_map}
 use Rattle.body.specs.declared.body.Body.{Ghosts}
 use Rattle.lane.specs.declared.refusal.SeatRefusal.{SeatRefusal}
-use Rattle.lane.specs.Calls.{After, Opened, open_refusal, open_world, seat_by, seat_call, seat_refusal, step_call, paused_as, pause_call, resume_call, untouched}
+use Rattle.lane.specs.Calls.{Opened, open_refusal, open_world, seat_by, seat_call, seat_refusal, step_call, paused_as, pause_call, resume_call, untouched}
 use Rattle.lane.specs.Sane.{Sane}
 use Rattle.lane.specs.Worlds.{World}
 use Rattle.lane.proofs.Sanity.{opens_well, sane_open, sane_pause, sane_resume, sane_seat, sane_step}

@@ -1,5 +1,5 @@
 -- A seat of a sane book that is ready can take its step within bounds.
-use Rattle.std.proofs.Common.{◌≡◌, ℕ, zero, suc, ◌+◌, ◌*◌, ◌<◌, ◌≤◌, Bool, true, false, cond, ◌&&◌, eqb, ltb, List, [], ◌∷◌, length, get_or, Some, None, Ok, Err, Option, Result, sym, refl, ap, ◌∙◌, subst, true≢false, arith}
+use Rattle.std.proofs.Common.{◌≡◌, ℕ, zero, suc, ◌+◌, ◌<◌, ◌≤◌, Bool, true, false, cond, ltb, List, [], ◌∷◌, length, get_or, Some, None, Ok, Err, Option, Result, sym, refl, ap, ◌∙◌, subst, arith}
 use mathlib.Core.Bool.{false≢true}
 use mathlib.Core.Logic.{∥∥₁_elim, ∥∥₁_map}
 use native.Mathlib.Bridge.{le_prop}
@@ -9,20 +9,19 @@ use Rattle.lane.specs.declared.phase.Phase.{Phase}
 use Rattle.lane.specs.declared.phase.Phase.TheVariants.{Reserve, MasterLook, Take, MasterRun, Put, Begin, Run, Check, Wait, Look, Prevalidate, Swap, Validate, Mark, Cell, Release, LetGo, Quit, Leave}
 use Rattle.lane.specs.declared.phase.Way.{Way}
 use Rattle.lane.specs.declared.refusal.StepRefusal.{StepRefusal}
-use Rattle.lane.specs.declared.refusal.StepRefusal.TheVariants.{NoSeat, Idle, Lists as Lists-refused}
+use Rattle.lane.specs.declared.refusal.StepRefusal.TheVariants.{NoSeat, Lists as Lists-refused}
 use Rattle.lane.specs.declared.seated.Seated.{Seated}
-use Rattle.lane.specs.declared.step.Effect.{Effect}
 use Rattle.lane.specs.declared.step.Effect.TheVariants.{NumberLowered, QueueJoined}
 use Rattle.lane.specs.declared.step.LogChange.{LogChange}
 use Rattle.lane.specs.declared.step.LogChange.TheVariants.{Same, Emptied, Noted, Entered}
 use Rattle.lane.specs.declared.step.Step.{Step}
 use Rattle.lane.specs.declared.stepped.Stepped.{Stepped}
 use Rattle.lane.specs.declared.written.Written.{Written}
-use Rattle.lane.specs.Calls.{After, answered, same_sizes, can_step, step_now, step_did, step_by, step_call, step_reply, step_reply_by, step_world, untouched}
+use Rattle.lane.specs.Calls.{answered, same_sizes, can_step, step_now, step_did, step_by, step_call, step_reply, step_reply_by, step_world, untouched}
 use Rattle.lane.specs.Effects.{reads_after, writes_after}
 use Rattle.lane.specs.Logs.{most_reads, most_writes}
-use Rattle.lane.specs.Sane.{masters, queued, joins, joined, total, joined_of, lowers, lowers_of, Fair, FairSeat, Sane}
-use Rattle.lane.specs.Worlds.{World, read_log, write_log, work_of, reads_from, writes_from}
+use Rattle.lane.specs.Sane.{masters, joined, total, joined_of, lowers, lowers_of, Fair, FairSeat, Sane}
+use Rattle.lane.specs.Worlds.{World, read_log, write_log, work_of}
 use Rattle.lane.proofs.Sanity.{Lent, lent_from, stretch_fits, length_reads, length_writes, st, total_at, joined_one}
 use Rattle.lane.proofs.Steady.{of_next, NextIs, Queues, Plain, Lowering, Steady}
 use Rattle.lane.proofs.Stretched.{noted_within, entered_within}

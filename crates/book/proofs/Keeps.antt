@@ -1,5 +1,5 @@
 -- The sum of what the seats keep, seat by seat.
-use Rattle.std.proofs.Common.{◌≡◌, ℕ, zero, suc, ◌+◌, ◌<◌, ◌≤◌, List, [], ◌∷◌, length, get_or, drop, Some, None, Option, refl, add-one, arith}
+use Rattle.std.proofs.Common.{◌≡◌, ℕ, zero, suc, ◌+◌, ◌<◌, ◌≤◌, List, [], ◌∷◌, length, get_or, drop, None, Option, refl, add-one, arith}
 use Rattle.lane.specs.declared.seated.Seated.{Seated}
 use Rattle.lane.specs.Calls.{kept, kept_by}
 

@@ -1,5 +1,5 @@
 -- A stretch in the middle of a long list, lent on for writing: what an entry to the log at its front does to the list.
-use Rattle.std.proofs.Common.{◌≡◌, ℕ, zero, suc, ◌+◌, ◌-◌, ◌<◌, ◌≤◌, min, Bool, true, false, cond, not, List, [], ◌∷◌, length, take, drop, set, sym, refl, ap, ◌∙◌, subst, arith}
+use Rattle.std.proofs.Common.{◌≡◌, ℕ, zero, suc, ◌+◌, ◌-◌, ◌<◌, ◌≤◌, Bool, true, false, cond, not, List, [], ◌∷◌, length, take, drop, set, refl, ap, ◌∙◌, arith}
 use borrow.Rule.Slice.PartMut.{put_mid, mid_of, set_mid_at, mid_len}
 use Rattle.lane.specs.Logs.{laid, place_by, holds, used_with}
 use Rattle.lane.specs.Worlds.{stretch}

@@ -6,4 +6,5 @@ pub mod Deeds
 pub mod Keeps
 pub mod Laying
 pub mod Planning
+pub mod Reaching
 pub mod Zeros

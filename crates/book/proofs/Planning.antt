@@ -1,5 +1,5 @@
 -- A plan of the code is the step that the calls are defined by.
-use Rattle.std.proofs.Common.{◌≡◌, ℕ, ◌<◌, ◌≤◌, min, Bool, true, false, cond, ◌&&◌, ltb, List, length, get_or, take, drop, Some, None, Ok, Err, Option, Result, sym, refl, ap, ◌∙◌, subst, arith, length-take}
+use Rattle.std.proofs.Common.{◌≡◌, ℕ, ◌≤◌, Bool, true, false, cond, ◌&&◌, ltb, List, length, get_or, drop, Some, None, Ok, Err, Option, Result, sym, refl, ap, ◌∙◌, arith, length-take}
 use Rattle.body.specs.declared.body.Body.{Ghosts}
 use Rattle.lane.specs.declared.phase.Phase.{Phase}
 use Rattle.lane.specs.declared.phase.Phase.TheVariants.{Reserve, MasterLook, Take, MasterRun, Put, Begin, Run, Check, Wait, Look, Prevalidate, Swap, Validate, Mark, Cell, Release, LetGo, Quit, Leave}
@@ -8,14 +8,14 @@ use Rattle.lane.specs.declared.refusal.StepRefusal.TheVariants.{Lists as Lists-r
 use Rattle.lane.specs.declared.seated.Seated.{Seated}
 use Rattle.lane.specs.declared.step.Step.{Step}
 use Rattle.lane.specs.declared.written.Written.{Written}
-use Rattle.lane.specs.Calls.{entry_of, there, same_sizes, can_step, step_now}
+use Rattle.lane.specs.Calls.{entry_of, there, same_sizes, step_now}
 use Rattle.lane.specs.Phases.{step_at}
 use Rattle.lane.specs.Worlds.{World, stretch, reads_from, writes_from, work_of}
 use Rattle.book.specs.declared.common.Common.{Common}
 use Rattle.book.specs.declared.desk.Desk.{Desk}
 use Rattle.book.specs.declared.lists.Lists.{Lists}
 use Rattle.book.specs.declared.ready.Ready.{Ready}
-use Rattle.book.specs.Views.{shared_of, work_with, world, planned, ready_of, ready_by}
+use Rattle.book.specs.Views.{shared_of, work_with, world, planned, ready_of}
 
 pub short_stretch : {X : Type 0} (l : List X) (p n : ℕ) → length (stretch l p n) ≤ n
 short_stretch l p n = let e = length-take n (drop p l) in omega arith

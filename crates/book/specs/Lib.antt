@@ -1,5 +1,6 @@
 pub mod Books
 pub mod Questions
+pub mod Reaching
 pub mod Seatings
 pub mod Standing
 pub mod Views

@@ -15,7 +15,7 @@ use Rattle.lane.specs.declared.step.LogChange.TheVariants.{Same, Emptied, Noted,
 use Rattle.lane.specs.declared.step.Step.{Step}
 use Rattle.lane.specs.declared.written.Written.{Written}
 use Rattle.lane.specs.Logs.{cell_of, itself, place_by, most_reads, most_writes}
-use Rattle.lane.specs.State.{Core, Shared, Work}
+use Rattle.lane.specs.State.{Shared, Work}
 use Rattle.lane.specs.Worlds.{World, stretch, reads_from, writes_from}
 use Rattle.book.specs.declared.common.Common.{Common}
 use Rattle.book.specs.declared.desk.Desk.{Desk}

@@ -1,7 +1,8 @@
 // The step that a seat is to take.
 ghost use Rattle.std.specs.Prelude.{◌≡◌, ◌≤◌, ◌++◌, length, slice_index, slice_index_or};
 ghost use Rattle.lane.specs.Logs.{cells_of, no_entry};
-ghost use Rattle.lane.specs.Phases.{cell_step, run_step, step_at};
+ghost use Rattle.lane.specs.Narrow.{IsNarrow};
+ghost use Rattle.lane.specs.Phases.{cell_step, master_run_step, run_step, step_at};
 ghost use Rattle.lane.specs.State.{stale_in};
 ghost use Rattle.book.specs.Views.{shared_of, work_with};
 
@@ -29,13 +30,14 @@ pub(crate) fn decide<B: Body>(
 ) -> Step
     requires reads { length sight.reads.now ≤ 64 }
     requires writes { length sight.writes.now ≤ 32 }
+    requires narrow { IsNarrow (B.Body.asks body.now) }
     ensures { result ≡ step_at B.Body (shared_of common sight.entry.cells.now sight.entry.marks.now) seat (work_with body.now seated sight.entry.reads.now sight.entry.writes.now) seated.phase }
 {
     match seated.phase {
         Phase::Reserve => steps::reserve(common.paused),
         Phase::MasterLook => steps::master_look(common.number),
         Phase::Take => steps::take(common.number),
-        Phase::MasterRun => steps::master_run(common.number, sight.cells, body.request()),
+        Phase::MasterRun => master(common.number, sight.cells, body.request()),
         Phase::Put { cell, amount } => steps::put(cell, amount),
         Phase::Begin => steps::begin(common.paused, common.number),
         Phase::Run => run(common, sight, seated, body.request()),
@@ -69,21 +71,40 @@ pub(crate) fn decide<B: Body>(
     }
 }
 
+// What the master's body asks for.
+fn master(number: u32, cells: &[i64], request: Request) -> Step
+    requires { IsNarrow request }
+    ensures { result ≡ master_run_step number cells.now request }
+{
+    match request {
+        Request::Read(cell) => steps::master_read(cells, cell as u32),
+        Request::Write(cell, amount) => steps::master_write(cell as u32, amount),
+        Request::End => steps::master_end(number),
+    }
+}
+
 // What a helper's body asks for.
 fn run(common: Common, sight: Sight<'_>, seated: Seated, request: Request) -> Step
-    requires { length sight.writes.now ≤ 32 }
+    requires writes { length sight.writes.now ≤ 32 }
+    requires narrow { IsNarrow request }
     ensures { result ≡ run_step (shared_of common sight.entry.cells.now sight.entry.marks.now) (work_with (tt {0}) seated sight.entry.reads.now sight.entry.writes.now) request }
 {
     let written = sight.writes.len() as u32;
     match request {
-        Request::Read(cell) => steps::read(sight.cells, cell, lookup(sight.writes, cell)),
-        Request::Write(cell, amount) => steps::write(
-            is_stale(sight.marks, seated.start, cell),
-            has(sight.writes, cell),
-            written,
-            cell,
-            amount,
-        ),
+        Request::Read(cell) => {
+            let cell = cell as u32;
+            steps::read(sight.cells, cell, lookup(sight.writes, cell))
+        }
+        Request::Write(cell, amount) => {
+            let cell = cell as u32;
+            steps::write(
+                is_stale(sight.marks, seated.start, cell),
+                has(sight.writes, cell),
+                written,
+                cell,
+                amount,
+            )
+        }
         Request::End => steps::end(common.number, seated.way, seated.start, written),
     }
 }

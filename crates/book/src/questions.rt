@@ -8,10 +8,11 @@ ghost use Rattle.book.specs.Views.{if_there};
 use super::book::Book;
 use super::lists::Lists;
 use super::status::Status;
+use body::Body;
 use journal::LineRefusal;
 use lane::{Phase, Seated};
 
-impl<B> Book<B> {
+impl<B: Body> Book<B> {
     // How the book stands.
     pub fn status(&self) -> Status
         ensures { result ≡ status_of self.now }

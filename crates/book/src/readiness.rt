@@ -1,8 +1,10 @@
 // Whether a seat may step, and what it is to do.
 ghost use Rattle.std.specs.Prelude.{◌≡◌, ◌+◌, ◌<◌, ◌≤◌, ◌&&◌, length, None, slice_index_or};
 ghost use Rattle.lane.specs.Calls.{entry_of, same_sizes, there};
+ghost use Rattle.lane.specs.Narrow.{IsNarrow};
 ghost use Rattle.lane.specs.Sane.{Sane};
 ghost use Rattle.lane.specs.Worlds.{reads_from, stretch, writes_from};
+ghost use Rattle.book.specs.Reaching.{AllReachWithin};
 ghost use Rattle.book.specs.Views.{if_there, planned, ready_of, work_with, world};
 
 use super::common::Common;
@@ -28,7 +30,8 @@ impl<B> Desk<B> {
 
 impl<B: Body> Desk<B> {
     pub(crate) fn ready(&self, lists: &Lists<'_>, seat: u32) -> Result<Ready, StepRefusal>
-        requires { ∥ Sane (world self.now lists.now) ∥₁ }
+        requires sane { ∥ Sane (world self.now lists.now) ∥₁ }
+        requires within { ∥ AllReachWithin B.Body.reach self.now.sizes.cells self.now.bodies ∥₁ }
         ensures { result ≡ ready_of B.Body (world self.now lists.now) seat }
     {
         if seat > self.helpers {
@@ -87,6 +90,7 @@ fn plan<B: Body>(
     requires few_writes { seated.writes ≤ 32 }
     requires reads { reads_from seat + seated.reads ≤ length lists.now.reads.now }
     requires writes { writes_from seat + seated.writes ≤ length lists.now.writes.now }
+    requires narrow { IsNarrow (B.Body.asks body.now) }
     ensures { result ≡ planned B.Body common lists.now body.now seat seated }
 {
     let helper = seat.saturating_sub(1) as usize;

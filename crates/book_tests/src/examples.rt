@@ -188,7 +188,13 @@ fn examples_1_to_5(rt: HostRuntime) -> Result<(), Fail> {
 // Step 131 is the first that does not go on. The seat is idle then.
 fn too_long(rt: &impl Abort, book: &mut Book<Total>, lists: &mut Shelf) -> Result<(), Fail> {
     sits(book, 1, 1, 6, Total::new(0, 64, 0)?)?;
-    turns(rt, book, lists, &[(1, 130, GoneOn, 0), (1, 1, TooLong, 0)])?;
+    turns(
+        rt,
+        book,
+        lists,
+        &[(1, 130, GoneOn, 0), (1, 1, TooLong, 0)],
+        "6: too long",
+    )?;
     assert_eq!(rt; step_on(book, lists, 1), Err(StepRefusal::Idle));
     Ok(())
 }
@@ -208,7 +214,7 @@ fn example_6(rt: HostRuntime) -> Result<(), Fail> {
     let mut lists = lay(heap, cells.as_slice(), ROOM)?;
     let mut book: Book<Total> = open_on(&mut lists, 1, 8, 0)?;
     too_long(&rt, &mut book, &mut lists)?;
-    holds(&rt, &lists, cells.as_slice(), &[0, 0], &[]);
+    holds(&rt, &lists, cells.as_slice(), &[0, 0], &[], "6: too long");
     Ok(())
 }
 

@@ -430,7 +430,14 @@ fn opens(rt: &impl Abort, heap: Global, row: Row) -> Result<(), Fail> {
         None => marks_of(heap, 0, lengths.marks)?,
     };
     assert_eq!(rt; answer(&mut lists, helpers, number), refusal);
-    holds(rt, &lists, cells.as_slice(), marks.as_slice(), &[]);
+    holds(
+        rt,
+        &lists,
+        cells.as_slice(),
+        marks.as_slice(),
+        &[],
+        "after the opening",
+    );
     Ok(())
 }
 

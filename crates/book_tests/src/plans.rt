@@ -35,16 +35,22 @@ pub const LENGTHS: Lengths = Lengths {
     journal: 16,
 };
 
+// A failure tells by these words which run it is.
 pub(crate) fn turns<B: Body + Drop>(
     rt: &impl Abort,
     book: &mut Book<B>,
     shelf: &mut Shelf,
     table: &[Turn],
+    words: &str,
 ) -> Result<(), Fail> {
     for turn in table {
         let (seat, times, answer, number) = *turn;
         for _ in 0..times {
-            assert_eq!(rt; step_on(book, shelf, seat)?, Stepped { answer, number });
+            assert_eq!(rt;
+                step_on(book, shelf, seat)?,
+                Stepped { answer, number },
+                "{words}"
+            );
         }
     }
     Ok(())
@@ -62,14 +68,14 @@ fn play(rt: &impl Abort, heap: Global, plan: Plan) -> Result<(), Fail> {
     let mut lists = lay(heap, &FOUR, LENGTHS)?;
     let mut book: Book<Total> = open_on(&mut lists, 1, 8, 0)?;
     sit_all(&mut book, plan.chairs)?;
-    turns(rt, &mut book, &mut lists, plan.turns)?;
-    holds(rt, &lists, plan.cells, plan.marks, plan.records);
+    turns(rt, &mut book, &mut lists, plan.turns, plan.words)?;
+    holds(rt, &lists, plan.cells, plan.marks, plan.records, plan.words);
     Ok(())
 }
 
 pub(crate) fn play_all(rt: &impl Abort, heap: Global, plans: &[Plan]) -> Result<(), Fail> {
     for plan in plans {
-        play(rt, heap, *plan).note(plan.words)?;
+        play(rt, heap, *plan)?;
     }
     Ok(())
 }

@@ -125,20 +125,22 @@ pub(crate) fn sits<B: Body + Drop>(
     }
 }
 
-// The cells, the marks, and the records that are used. Behind these nothing was recorded.
+// The cells, the marks, and the records that are used. Behind these nothing was recorded. A failure tells by these words which
+// run it is.
 pub(crate) fn holds(
     rt: &impl Abort,
     shelf: &Shelf,
     cells: &[i64],
     marks: &[u32],
     records: &[Record],
+    words: &str,
 ) {
-    assert!(rt; shelf.cells.as_slice() == cells, "the cells");
-    assert!(rt; shelf.marks.as_slice() == marks, "the marks");
+    assert!(rt; shelf.cells.as_slice() == cells, "the cells {words}");
+    assert!(rt; shelf.marks.as_slice() == marks, "the marks {words}");
     let journal = shelf.journal.as_slice();
-    assert!(rt; journal.len() >= records.len(), "the journal");
+    assert!(rt; journal.len() >= records.len(), "the journal {words}");
     for i in 0..journal.len() {
         let expected = if i < records.len() { records[i] } else { BLANK };
-        assert_eq!(rt; journal[i], expected);
+        assert_eq!(rt; journal[i], expected, "{words}");
     }
 }

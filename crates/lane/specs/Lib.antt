@@ -5,6 +5,7 @@ pub mod Journals
 pub mod Kept
 pub mod Law
 pub mod Logs
+pub mod Narrow
 pub mod Numbers
 pub mod Phases
 pub mod Runs

@@ -75,10 +75,19 @@ abbrev pub take_step : ℕ → Step
 take_step number = restarts number LaneTaken MasterRun
 
 -- The master reads cells as they stand. A write sets the mark first, so that a helper which loads the new amount finds it.
+abbrev pub master_read_step : List ℤ → ℕ → Step
+master_read_step cells c = hands c (slice_index_or cells c (pos 0)) Same MasterRun
+
+abbrev pub master_write_step : ℕ → ℤ → Step
+master_write_step c v = does (MarkSet c) (Put c v)
+
+abbrev pub master_end_step : ℕ → Step
+master_end_step number = commits_as number NumberRaised None
+
 abbrev pub master_run_step : ℕ → List ℤ → Request → Step
-master_run_step number cells (Read c) = hands c (slice_index_or cells c (pos 0)) Same MasterRun
-master_run_step number cells (Write c v) = does (MarkSet c) (Put c v)
-master_run_step number cells End = commits_as number NumberRaised None
+master_run_step number cells (Read c) = master_read_step cells c
+master_run_step number cells (Write c v) = master_write_step c v
+master_run_step number cells End = master_end_step number
 
 abbrev pub put_step : ℕ → ℤ → Step
 put_step c v = takes_write c v Same (CellSet c v) MasterRun

@@ -7,7 +7,7 @@ mod master;
 mod ways;
 
 pub use helper::{begin, check, end, is_stale, read, write};
-pub use master::{master_look, master_run, put, reserve, take};
+pub use master::{master_end, master_look, master_read, master_write, put, reserve, take};
 pub use ways::{
     leave, let_go, look, mark, prevalidate, quit, release, set_cell, swap, validate, wait,
 };

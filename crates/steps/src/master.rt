@@ -1,11 +1,10 @@
 // The master's steps.
 ghost use Rattle.std.specs.Prelude.{◌≡◌};
-ghost use Rattle.lane.specs.Phases.{master_look_step, master_run_step, put_step, reserve_step, take_step};
+ghost use Rattle.lane.specs.Phases.{master_end_step, master_look_step, master_read_step, master_write_step, put_step, reserve_step, take_step};
 
 use super::forms::{
     amount_at, committing, doing, going, handing, restarting, staying, taking_write,
 };
-use body::Request;
 use lane::{Answer, Effect, LogChange, Phase, Step};
 
 // Sets the flag, unless a pause stands.
@@ -37,20 +36,30 @@ pub fn take(number: u32) -> Step
     restarting(number, Effect::LaneTaken, Phase::MasterRun)
 }
 
-// Does what the body asks. A write sets the mark, and the cell in the step after.
-pub fn master_run(number: u32, cells: &[i64], request: Request) -> Step
-    ensures { result ≡ master_run_step number cells.now request }
+// Hands the amount in the cell that the body asks for.
+pub fn master_read(cells: &[i64], cell: u32) -> Step
+    ensures { result ≡ master_read_step cells.now cell }
 {
-    match request {
-        Request::Read(cell) => handing(
-            cell,
-            amount_at(cells, cell),
-            LogChange::Same,
-            Phase::MasterRun,
-        ),
-        Request::Write(cell, amount) => doing(Effect::MarkSet(cell), Phase::Put { cell, amount }),
-        Request::End => committing(number, Effect::NumberRaised, None),
-    }
+    handing(
+        cell,
+        amount_at(cells, cell),
+        LogChange::Same,
+        Phase::MasterRun,
+    )
+}
+
+// Sets the mark of the cell that the body writes. The cell is set in the step after.
+pub fn master_write(cell: u32, amount: i64) -> Step
+    ensures { result ≡ master_write_step cell amount }
+{
+    doing(Effect::MarkSet(cell), Phase::Put { cell, amount })
+}
+
+// Commits, and gives the lane back.
+pub fn master_end(number: u32) -> Step
+    ensures { result ≡ master_end_step number }
+{
+    committing(number, Effect::NumberRaised, None)
 }
 
 // Sets the cell.

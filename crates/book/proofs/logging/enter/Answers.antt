@@ -1,5 +1,4 @@
-use Rattle.std.proofs.Common.{◌≡◌, ◌+◌, cond, sym, refl, ap, ◌∙◌, subst}
-use Rattle.lane.specs.Logs.{used_with}
+use Rattle.std.proofs.Common.{◌+◌, cond, sym, ap, ◌∙◌}
 use Rattle.book.proofs.Laying.{laid_within, grown_front}
 use Rattle.book.proofs.logging.enter.Goals as goal
 

@@ -1,4 +1,4 @@
-use Rattle.std.proofs.Common.{◌≡◌, suc, ◌+◌, ◌-◌, ◌*◌, ◌<◌, length, get_or, drop, None, sym, ap, ◌∙◌, arith, rules}
+use Rattle.std.proofs.Common.{◌≡◌, suc, ◌-◌, ◌<◌, get_or, drop, None, ap, arith, rules}
 use Rattle.book.specs.Questions.{seat_bit, seat_word}
 use Rattle.book.proofs.Counting.{bit_one, word_small, word_next, word_none}
 use Rattle.book.proofs.questions.seat_word.Goals as goal
@@ -6,13 +6,13 @@ use Rattle.book.proofs.questions.seat_word.Goals as goal
 pub loop-i-init : goal.loop-i-init
 loop-i-init c = (word_none c.args.seats.now, omega arith)
 
-pub overflow-mul-word : goal.overflow-mul-word
-overflow-mul-word c =
+pub overflow_mul-word : goal.overflow_mul-word
+overflow_mul-word c =
     let s : c.loop-i.word < 512 = (let w = word_small c.args.seats.now c.loop-i.i c.requires in omega (arith, c.loop-i.invariant.0)) in
     search rules
 
-pub overflow-add-word : goal.overflow-add-word
-overflow-add-word c =
+pub overflow_add-word : goal.overflow_add-word
+overflow_add-word c =
     let s : c.loop-i.word < 512 = (let w = word_small c.args.seats.now c.loop-i.i c.requires in omega (arith, c.loop-i.invariant.0)) in
     let b : c.bit.result < 2 = (let z = bit_one (get_or c.args.seats.now (c.loop-i.i - 1) None) in let e : c.bit.result ≡ seat_bit (get_or c.args.seats.now (c.loop-i.i - 1) None) = search rules in omega arith) in
     search rules

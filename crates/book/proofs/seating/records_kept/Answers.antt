@@ -1,4 +1,4 @@
-use Rattle.std.proofs.Common.{◌≡◌, get_or, None, ap, ◌∙◌, arith, rules}
+use Rattle.std.proofs.Common.{◌≡◌, get_or, None, arith, rules}
 use Rattle.lane.specs.Calls.{kept_by}
 use Rattle.book.proofs.Keeps.{kept_next, kept_none}
 use Rattle.book.proofs.seating.records_kept.Goals as goal
@@ -7,7 +7,7 @@ pub loop-i-preserved : goal.loop-i-preserved
 loop-i-preserved c =
     let n = kept_next c.args.seats.now c.loop-i.i c.loop-i-test.true in
     let e : c.keeps.result ≡ kept_by (get_or c.args.seats.now c.loop-i.i None) = search rules in
-    (omega (arith, c.loop-i.invariant.0), omega (arith, c.loop-i.invariant.1, c.keeps.type-inv))
+    (omega (arith, c.loop-i.invariant.0), omega (arith, c.loop-i.invariant.1, c.keeps.type_inv))
 
 pub returns : goal.returns
 returns c = record {

@@ -2,10 +2,14 @@ use Rattle.std.proofs.Common.{rules}
 use Rattle.lane.proofs.Keeping.{resume_keeps}
 use Rattle.book.specs.Views.{world}
 use Rattle.book.proofs.Calling.{resumed_lent, resumed_sane}
+use Rattle.book.proofs.Reaching.{resumed_within}
 use Rattle.book.proofs.book.Book.resume.Goals as goal
 
-pub invariant-of-self : goal.invariant-of-self
-invariant-of-self g c = (resumed_sane c.args.self.now.desk c.resume-paused.new.self c.args.ticket.book c.resume-paused.ensures.after c.args.self.now.sane, tt)
+pub invariant_of-self : goal.invariant_of-self
+invariant_of-self g c = record {
+  sane = resumed_sane c.args.self.now.desk c.resume-paused.new.self c.args.ticket.book c.resume-paused.ensures.after c.args.self.now.sane;
+  within = resumed_within g.B.Body c.args.self.now.desk c.resume-paused.new.self c.args.ticket.book c.resume-paused.ensures.after c.args.self.now.within;
+}
 
 pub returns-then-not-own : goal.returns-then-not-own
 returns-then-not-own g c =

@@ -1,13 +1,13 @@
-use Rattle.std.proofs.Common.{◌≡◌, eqb, ap, ◌∙◌}
+use Rattle.std.proofs.Common.{eqb, ap, ◌∙◌}
 use lib.Count.{ones}
 use Rattle.book.specs.declared.status.Status.{Status}
-use Rattle.book.specs.Questions.{seat_count, seat_word}
+use Rattle.book.specs.Questions.{seat_word}
 use Rattle.book.proofs.Counting.{ones_count}
 use Rattle.book.proofs.book.Book.status.Goals as goal
 
 pub returns : goal.returns
 returns g c =
     let d = c.args.self.now.desk in
-    let count = ap ones c.seat-word-word.ensures ∙ ones_count d.seats in
-    ap {B = Status} (λ n. record { number = d.common.number; flag = d.common.flag; paused = d.common.paused; used = d.used; word = n; count = ones c.seat-word-word.result; quiet = eqb (ones c.seat-word-word.result) 0 }) c.seat-word-word.ensures
+    let count = ap ones c.seat_word-word.ensures ∙ ones_count d.seats in
+    ap {B = Status} (λ n. record { number = d.common.number; flag = d.common.flag; paused = d.common.paused; used = d.used; word = n; count = ones c.seat_word-word.result; quiet = eqb (ones c.seat_word-word.result) 0 }) c.seat_word-word.ensures
     ∙ ap {B = Status} (λ n. record { number = d.common.number; flag = d.common.flag; paused = d.common.paused; used = d.used; word = seat_word d.seats; count = n; quiet = eqb n 0 }) count

@@ -5,5 +5,5 @@ use Rattle.book.proofs.desk.Desk.seat.Goals as goal
 
 pub place-requires : goal.place-requires
 place-requires g c =
-    let r = seat_few (bare c.args.self.now) c.requires g.B.Body c.args.seat c.args.way-number c.args.body c.in-None.ensures in
+    let r = seat_few (bare c.args.self.now) c.requires g.B.Body c.args.seat c.args.way_number c.args.body c.in-None.ensures in
     (search rules, r)

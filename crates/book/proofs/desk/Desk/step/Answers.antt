@@ -1,4 +1,4 @@
-use Rattle.std.proofs.Common.{◌≡◌, sym, ◌∙◌, rules}
+use Rattle.std.proofs.Common.{◌∙◌, rules}
 use Rattle.book.specs.Views.{world}
 use Rattle.book.proofs.Deeds.{is_ready, ready_reply, ready_world, refused_reply, acts}
 use Rattle.book.proofs.desk.Desk.step.Goals as goal
@@ -6,7 +6,7 @@ use Rattle.book.proofs.desk.Desk.step.Goals as goal
 pub act-requires : goal.act-requires
 act-requires g c =
     let w = world c.args.self.now c.args.lists.now in
-    (search rules, acts g.B.Body w c.requires c.args.seat c.in-Ok.ready (is_ready g.B.Body w c.args.seat c.in-Ok.ready c.in-Ok.ensures))
+    (search rules, acts g.B.Body w c.requires.sane c.args.seat c.in-Ok.ready (is_ready g.B.Body w c.args.seat c.in-Ok.ready c.in-Ok.ensures))
 
 pub returns-in-Err : goal.returns-in-Err
 returns-in-Err g c =
