@@ -4,7 +4,7 @@ use Rattle.std.specs.List.{AllByRecursion}
 use Rattle.std.proofs.lemmas.List.{drop-drop}
 use Rattle.std.proofs.lemmas.Int.{ints}
 use Rattle.std.proofs.lemmas.Bool.{leb-true, and_parts}
-use Rattle.money.specs.Amounts.{limit}
+use Rattle.money.specs.Amounts.{limit, within_limit}
 use Rattle.imports.specs.declared.checked.Checked.{Checked}
 use Rattle.imports.specs.declared.posting.Posting.{Posting}
 use Rattle.imports.specs.declared.posting.Posting.TheVariants.{Post, Transfer}
@@ -19,7 +19,7 @@ use Rattle.body.specs.MadeImports.{unposted, MadeImport}
 use Rattle.body.specs.Outcomes.{booked}
 use Rattle.body.specs.Plans.{Plan, read, write, Follows, carried_out}
 use Rattle.body.specs.Reading.{postings, postings_are}
-use Rattle.body.specs.Tests.{within_limit, on_read, on_write}
+use Rattle.body.specs.Tests.{on_read, on_write}
 use Rattle.body.proofs.Alone.{runs_alone, runs_as}
 use Rattle.body.proofs.Doing.{does_import}
 use Rattle.body.specs.Imported.{next_checked, import_lawful}

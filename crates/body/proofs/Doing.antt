@@ -11,7 +11,7 @@ use Rattle.body.specs.Outcomes.{booked, handed_of, all_within_limit, sum_of, ran
 use Rattle.body.specs.Plans.{write, end, carried_out}
 use Rattle.body.specs.Scripts.{script_plan}
 use Rattle.body.specs.Serial.{Outcome, given}
-use Rattle.body.specs.Tests.{within_limit}
+use Rattle.money.specs.Amounts.{within_limit}
 use Rattle.body.specs.Totals.{summed, total_plan}
 
 booked_outcome : (ps : List Posting) (n : ℕ) (cells : List ℤ) → (carried_out (import_plan ps n) cells).outcome ≡ (booked ps cells).outcome

@@ -3,13 +3,12 @@ use Rattle.std.proofs.Common.{◌≡◌, ℕ, zero, suc, ◌+◌, ◌-◌, ◌*�
 use Rattle.std.specs.Int.{saturate_to_bits}
 use Rattle.std.proofs.lemmas.Int.{ints}
 use Rattle.std.proofs.lemmas.Bool.{le-leb, lt-ltb, le-ltb, leb-true}
-use Rattle.money.specs.Amounts.{limit}
+use Rattle.money.specs.Amounts.{limit, within_limit}
 use Rattle.body.specs.declared.request.Request.TheVariants as requests
 use Rattle.body.specs.declared.sum.Total.{Total}
 use Rattle.body.specs.declared.sum.TotalStep.{TotalStep}
 use Rattle.body.specs.declared.sum.TotalStep.TheVariants.{Read, Write, Done}
 use Rattle.body.specs.Plans.{Plan, write, end, Follows}
-use Rattle.body.specs.Tests.{within_limit}
 use Rattle.body.specs.Totals.{sum_written, summed, total_plan, stepped, sum_known, sum_next, total_told_at, total_members}
 
 -- a number that fits is not changed by a sum that stops at the bounds

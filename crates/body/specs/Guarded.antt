@@ -5,7 +5,8 @@ use Rattle.std.proofs.lemmas.Bool.{ltb-true, leb-true, and_parts, cond_both}
 use Rattle.body.specs.declared.request.Request.{Request}
 use Rattle.body.specs.declared.request.Request.TheVariants.{Read, Write, End}
 use Rattle.body.specs.Meaning.{Lawful, Proper, Same, ReadTold, WriteTaken}
-use Rattle.body.specs.Tests.{kept, within_limit, on_read, on_write, unless_end}
+use Rattle.body.specs.Tests.{kept, on_read, on_write, unless_end}
+use Rattle.money.specs.Amounts.{within_limit}
 
 pub kept_proper : (reach : ℕ) (r : Request) → Proper reach (kept reach r)
 kept_proper reach (Read c) = cond_both (nat_lt c reach) (Read c) End (Proper reach) (λ e. ltb-true c reach e) (λ e. tt)

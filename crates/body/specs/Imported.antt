@@ -16,7 +16,8 @@ use Rattle.body.specs.Imports.{import_step_asks, import_reach, took_next, next_l
 use Rattle.body.specs.Meaning.{Lawful, Same}
 use mathlib.Core.HLevel.{is_prop→PathP}
 use Rattle.body.specs.Reading.{postings, postings_told, place}
-use Rattle.body.specs.Tests.{kept, within_limit}
+use Rattle.body.specs.Tests.{kept}
+use Rattle.money.specs.Amounts.{within_limit}
 use Rattle.body.specs.Guarded.{Counts, lawful}
 
 -- the next line weighs what is left of the postings

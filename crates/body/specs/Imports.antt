@@ -13,7 +13,8 @@ use Rattle.body.specs.declared.request.Request.{Request}
 use Rattle.body.specs.declared.request.Request.TheVariants as requests
 use Rattle.body.specs.Plans.{Plan, read, write, end}
 use Rattle.body.specs.Reading.{postings, place}
-use Rattle.body.specs.Tests.{within_limit, kept, on_read, on_write, unless_end}
+use Rattle.body.specs.Tests.{kept, on_read, on_write, unless_end}
+use Rattle.money.specs.Amounts.{within_limit}
 
 -- A post can be booked on a cell that holds x.
 abbrev pub post_good : ℤ → ℤ → Bool

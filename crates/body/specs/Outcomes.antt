@@ -6,7 +6,7 @@ use Rattle.body.specs.declared.steps.ScriptStep.{ScriptStep}
 use Rattle.body.specs.declared.steps.ScriptStep.TheVariants.{Read, Put, Carry}
 use Rattle.body.specs.Imports.{post_good, transfer_good}
 use Rattle.body.specs.Plans.{Done}
-use Rattle.body.specs.Tests.{within_limit}
+use Rattle.money.specs.Amounts.{within_limit}
 
 abbrev pub amount_in : List ℤ → ℕ → ℤ
 amount_in cells c = slice_index_or cells c (pos 0)

@@ -4,7 +4,7 @@ use Rattle.std.proofs.Common.{sym, ap, subst, ◌∙◌, ⊎_elim, arith}
 use Rattle.std.specs.List.{AllByRecursion}
 use Rattle.std.proofs.lemmas.List.{drop_all, drop-drop}
 use Rattle.std.proofs.lemmas.Bool.{cases_lt, lt-ltb, le-leb, and_from, and_right}
-use Rattle.money.specs.Amounts.{limit}
+use Rattle.money.specs.Amounts.{limit, within_limit}
 use Rattle.body.specs.declared.request.Request.{Request}
 use Rattle.body.specs.declared.request.Request.TheVariants.{Read, Write, End}
 use Rattle.body.specs.declared.steps.Script.{Script}
@@ -14,7 +14,7 @@ use Rattle.body.specs.Makers.{SoundStep, step_reach, steps_reach, no_result}
 use Rattle.body.specs.Meaning.{Lawful}
 use Rattle.body.specs.Plans.{Plan, write, end, Follows}
 use Rattle.body.specs.Scripts.{step_asks, steps_ask, script_asks, script_at, script_told, script_taken, script_begin, script_left, script_reach, script_len, script_plan, script_members}
-use Rattle.body.specs.Tests.{kept, within_limit, on_read, on_write}
+use Rattle.body.specs.Tests.{kept, on_read, on_write}
 use Rattle.body.specs.Guarded.{Counts, lawful}
 
 abbrev raw : Script → Request

@@ -7,7 +7,8 @@ use Rattle.body.specs.declared.steps.Script.{Script}
 use Rattle.body.specs.declared.steps.ScriptStep.{ScriptStep}
 use Rattle.body.specs.declared.steps.ScriptStep.TheVariants.{Read, Put, Carry}
 use Rattle.body.specs.Plans.{Plan, read, write, end}
-use Rattle.body.specs.Tests.{within_limit, kept, on_read, on_write, unless_end}
+use Rattle.body.specs.Tests.{kept, on_read, on_write, unless_end}
+use Rattle.money.specs.Amounts.{within_limit}
 
 -- The steps in order, with the amount read last. A carried amount beyond the limit ends the script.
 abbrev pub script_plan : List ScriptStep → ℤ → Plan (Unit {0})

@@ -1,12 +1,8 @@
 -- Tests that code and definitions share.
-use Rattle.std.specs.Prelude.{ℕ, Bool, cond, ◌&&◌, ℤ, nat_le, nat_lt, unsigned_abs}
-use Rattle.money.specs.Amounts.{limit}
+use Rattle.std.specs.Prelude.{ℕ, Bool, cond, ◌&&◌, ℤ, nat_lt}
+use Rattle.money.specs.Amounts.{within_limit}
 use Rattle.body.specs.declared.request.Request.{Request}
 use Rattle.body.specs.declared.request.Request.TheVariants.{Read, Write, End}
-
--- Whether an amount is within the limit.
-abbrev pub within_limit : ℤ → Bool
-within_limit a = nat_le (unsigned_abs a) limit
 
 -- A request that keeps the laws, and an end in the place of any other, so that the laws hold of every value of a type and
 -- not only of those that its maker gives.

@@ -8,7 +8,7 @@ use Rattle.body.specs.declared.sum.Total.{Total}
 use Rattle.body.specs.declared.sum.TotalStep.{TotalStep}
 use Rattle.body.specs.declared.sum.TotalStep.TheVariants.{Read, Write, Done}
 use Rattle.body.specs.Plans.{Plan, read, write, end}
-use Rattle.body.specs.Tests.{within_limit}
+use Rattle.money.specs.Amounts.{within_limit}
 
 -- Writes the sum, unless it is beyond the limit.
 abbrev pub sum_written : ℕ → ℤ → Plan (Unit {0})

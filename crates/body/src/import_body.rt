@@ -5,8 +5,9 @@ ghost use Rattle.body.specs.Imported.{import_lawful};
 
 use super::body::Body;
 use super::importing::{HEADER_BYTES, Import, ImportStep};
-use super::request::{Request, is_within};
+use super::request::Request;
 use imports::Posting;
+use money::is_within;
 
 impl Body for Import {
     const KIND: u32 = 1;

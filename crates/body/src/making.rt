@@ -3,9 +3,9 @@ ghost use Rattle.std.specs.Prelude.{◌≡◌, MatchOption};
 ghost use Rattle.std.specs.List.{AllByRecursion};
 ghost use Rattle.body.specs.Makers.{MakesScript, MakesTotal, SoundStep, script_refusal_number, step_reach, steps_reach, total_refusal_number};
 
-use super::request::is_within;
 use super::steps::{Script, ScriptRefusal, ScriptStep};
 use super::sum::{Total, TotalRefusal, TotalStep};
+use money::is_within;
 
 const TOP_CELL: u32 = 4095;
 

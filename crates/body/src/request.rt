@@ -1,8 +1,8 @@
 // What a body asks for next.
 ghost use Rattle.std.specs.Prelude.{◌≡◌};
-ghost use Rattle.body.specs.Tests.{kept, within_limit};
+ghost use Rattle.body.specs.Tests.{kept};
 
-use money::LIMIT;
+use money::is_within;
 
 #[derive(Clone, Copy, Debug, PartialEq)]
 pub enum Request {
@@ -25,10 +25,4 @@ impl Request {
             _ => Request::End,
         }
     }
-}
-
-pub(crate) fn is_within(amount: i64) -> bool
-    ensures { result ≡ within_limit amount }
-{
-    amount.unsigned_abs() <= LIMIT
 }

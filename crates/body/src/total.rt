@@ -4,8 +4,9 @@ ghost use Rattle.body.specs.Totals.{sum_known, sum_told, total_asks, total_begin
 ghost use Rattle.body.specs.TotalLaws.{total_lawful};
 
 use super::body::Body;
-use super::request::{Request, is_within};
+use super::request::Request;
 use super::sum::{Total, TotalStep};
+use money::is_within;
 
 impl Body for Total {
     const KIND: u32 = 2;

@@ -1,6 +1,6 @@
 -- A search for an amount beyond the limit.
 use Rattle.std.proofs.Common.{◌≡◌, ℕ, zero, suc, ◌+◌, ◌<◌, ◌≤◌, true, false, List, [], ◌∷◌, length, get_or, drop, ℤ, pos, refl, add-one, arith}
-use Rattle.body.specs.Tests.{within_limit}
+use Rattle.money.specs.Amounts.{within_limit}
 use Rattle.lane.specs.Calls.{some_beyond}
 
 pub beyond_here : (l : List ℤ) (i : ℕ) → i < length l → within_limit (get_or l i (pos 0)) ≡ false → some_beyond (drop i l) ≡ true

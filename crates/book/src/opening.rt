@@ -1,14 +1,13 @@
 // When a book is not opened, and what is opened otherwise.
 ghost use Rattle.std.specs.Prelude.{◌≡◌, ◌*◌, ◌||◌, length, replicate, nat_lt};
 ghost use Rattle.lane.specs.Calls.{open_refusal, some_beyond};
-ghost use Rattle.body.specs.Tests.{within_limit};
 ghost use Rattle.book.specs.Views.{bare, bare_open, opened_with};
 
 use super::common::Common;
 use super::desk::Desk;
 use super::lists::Lists;
 use lane::{OpenRefusal, Sizes};
-use money::LIMIT;
+use money::is_within;
 use queue::Queue;
 
 const TOP_NUMBER: u32 = 2_147_483_600;
@@ -63,13 +62,6 @@ fn beyond(cells: &[i64]) -> bool
         }
     }
     false
-}
-
-// Whether an amount is within the limit.
-fn is_within(amount: i64) -> bool
-    ensures { result ≡ within_limit amount }
-{
-    amount.unsigned_abs() <= LIMIT
 }
 
 // All marks become 0.

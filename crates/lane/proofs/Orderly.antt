@@ -5,7 +5,7 @@ use Rattle.std.proofs.ByRecursion.{All-append}
 use Rattle.std.proofs.lemmas.Bool.{eq-eqb, lt-ltb, le-ltb, leb-true, or_parts, not-false, and_from, cond_both}
 use Rattle.body.specs.declared.body.Body.{Ghosts}
 use Rattle.body.specs.Meaning.{Within}
-use Rattle.body.specs.Tests.{within_limit}
+use Rattle.money.specs.Amounts.{within_limit}
 use Rattle.lane.specs.declared.phase.Phase.{Phase}
 use Rattle.lane.specs.declared.phase.Phase.TheVariants.{Reserve, MasterLook, Take, MasterRun, Put, Begin, Run, Check, Wait, Look, Prevalidate, Swap, Validate, Mark, Cell, Release, LetGo, Quit, Leave}
 use Rattle.lane.specs.declared.refusal.StepRefusal.{StepRefusal}

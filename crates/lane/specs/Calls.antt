@@ -1,7 +1,7 @@
 -- The calls of a book: when each is refused, what it answers, what it leaves, and the moment that it adds to the history.
 use Rattle.std.specs.Prelude.{ℕ, zero, suc, ◌+◌, ◌*◌, min, Bool, true, false, cond, not, ◌&&◌, ◌||◌, List, [], ◌∷◌, length, get_or, replicate, ℤ, Some, None, Ok, Err, Option, Result, ◌==◌, nat_le, nat_lt, slice_index, slice_index_or, slice_set}
 use Rattle.body.specs.declared.body.Body.{Ghosts}
-use Rattle.body.specs.Tests.{within_limit}
+use Rattle.money.specs.Amounts.{within_limit}
 use Rattle.journal.specs.declared.record.Record.{Record}
 use Rattle.journal.specs.declared.record.Record.TheVariants.{Change, Commit}
 use Rattle.lane.specs.declared.answer.Answer.{Answer}

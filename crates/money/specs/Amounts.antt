@@ -1,12 +1,16 @@
 -- How numbers, currency codes and amounts of money are written, and what reading one of them must answer.
 -- Reading is defined by writing: a field is read as the number whose writing it is, and as nothing where there is none.
-use Rattle.std.specs.Prelude.{◌≡◌, ℕ, zero, suc, ◌+◌, ◌/◌, ◌%◌, ◌^◌, ◌<◌, ◌≤◌, cond, List, [], ◌∷◌, ◌++◌, length, ℤ, pos, negsuc, codes, decimal, Option, MatchOption, ◌≢◌, unsigned_abs}
+use Rattle.std.specs.Prelude.{◌≡◌, ℕ, zero, suc, ◌+◌, ◌/◌, ◌%◌, ◌^◌, ◌<◌, ◌≤◌, Bool, cond, List, [], ◌∷◌, ◌++◌, length, ℤ, pos, negsuc, codes, decimal, Option, MatchOption, ◌≢◌, nat_le, unsigned_abs}
 use Rattle.std.specs.List.{AllByRecursion}
 use Rattle.std.specs.Str.{bytes_eq}
 
 -- No amount lies further than this from zero.
 abbrev pub limit : ℕ
 limit = 10 ^ 15
+
+-- Whether an amount is within the limit.
+abbrev pub within_limit : ℤ → Bool
+within_limit a = nat_le (unsigned_abs a) limit
 
 -- A number is read from at most fifteen digits, so it lies below this.
 abbrev pub bound : ℕ

@@ -1,6 +1,6 @@
 // Amounts: what a field of an import says in the smallest unit of its currency.
 ghost use Rattle.std.specs.Prelude.{◌≡◌, ◌≤◌};
-ghost use Rattle.money.specs.Amounts.{ReadsSigned, ReadsUnits, places};
+ghost use Rattle.money.specs.Amounts.{ReadsSigned, ReadsUnits, places, within_limit};
 ghost use Rattle.money.specs.Faults.{amount_fault_number, ReadsAmount};
 
 use super::code::Code;
@@ -30,11 +30,18 @@ pub fn read_amount(code: Code, field: &[u8]) -> Result<i64, AmountFault>
     ensures { ReadsAmount (places code.letters) field.now result }
 {
     let amount = read_signed(code.places(), field).ok_or(AmountFault::Form)?;
-    if amount.unsigned_abs() > LIMIT {
-        Err(AmountFault::Limit)
-    } else {
+    if is_within(amount) {
         Ok(amount)
+    } else {
+        Err(AmountFault::Limit)
     }
+}
+
+// Whether an amount is within the limit.
+pub fn is_within(amount: i64) -> bool
+    ensures { result ≡ within_limit amount }
+{
+    amount.unsigned_abs() <= LIMIT
 }
 
 // An amount, whether within the limit or not.

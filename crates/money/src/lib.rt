@@ -5,6 +5,6 @@ mod amount;
 mod code;
 mod number;
 
-pub use amount::{AmountFault, LIMIT, read_amount};
+pub use amount::{AmountFault, LIMIT, is_within, read_amount};
 pub use code::Code;
 pub use number::read_number;

@@ -1,5 +1,5 @@
 use Rattle.std.proofs.Common.{◌≡◌, true, false, get_or, pos, sym, ◌∙◌, arith, rules}
-use Rattle.body.specs.Tests.{within_limit}
+use Rattle.money.specs.Amounts.{within_limit}
 use Rattle.book.proofs.Beyond.{beyond_here, beyond_later, none_beyond}
 use Rattle.book.proofs.opening.beyond.Goals as goal
 
