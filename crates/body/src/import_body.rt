@@ -4,9 +4,9 @@ ghost use Rattle.body.specs.Imports.{LineRead, after_first, after_post, after_tr
 ghost use Rattle.body.specs.Imported.{import_lawful};
 
 use super::body::Body;
-use super::importing::{HEADER_BYTES, Import, ImportStep};
+use super::importing::{Import, ImportStep};
 use super::request::Request;
-use imports::Posting;
+use imports::{HEADER_BYTES, Posting};
 use money::is_within;
 
 impl Body for Import {

@@ -5,8 +5,8 @@ ghost use Rattle.imports.specs.Checks.{Tells};
 ghost use Rattle.body.specs.MadeImports.{MadeImport};
 
 use super::body::Body;
-use super::importing::{HEADER_BYTES, Import, ImportStep};
-use imports::Checked;
+use super::importing::{Import, ImportStep};
+use imports::{Checked, HEADER_BYTES};
 
 impl Import {
     pub fn new(checked: Checked) -> Import

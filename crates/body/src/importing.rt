@@ -4,9 +4,6 @@ ghost use Rattle.body.specs.Reading.{place};
 
 use imports::{Checked, Posting};
 
-// The text's postings begin behind its first line.
-pub(crate) const HEADER_BYTES: usize = 6;
-
 #[derive(Drop)]
 pub struct Import {
     pub(crate) checked: Checked,

@@ -5,9 +5,8 @@ ghost use Rattle.body.specs.Makers.{MakesScript, MakesTotal, SoundStep, script_r
 
 use super::steps::{Script, ScriptRefusal, ScriptStep};
 use super::sum::{Total, TotalRefusal, TotalStep};
+use imports::TOP_CELL;
 use money::is_within;
-
-const TOP_CELL: u32 = 4095;
 
 const MOST_STEPS: usize = 16;
 
@@ -16,7 +15,8 @@ impl Total {
     pub fn new(first: u32, last: u32, target: u32) -> Result<Total, TotalRefusal>
         ensures { MakesTotal first last target result }
     {
-        if first > last || last > TOP_CELL || target > TOP_CELL {
+        let top = u32::from(TOP_CELL);
+        if first > last || last > top || target > top {
             return Err(TotalRefusal);
         }
         Ok(Total {
@@ -89,7 +89,7 @@ fn reach_of_step(step: ScriptStep) -> Option<u32>
         ScriptStep::Put { cell, amount } => (cell, amount),
         ScriptStep::Carry { cell } => (cell, 0),
     };
-    if cell > TOP_CELL || !is_within(amount) {
+    if cell > u32::from(TOP_CELL) || !is_within(amount) {
         return None;
     }
     Some(cell + 1)

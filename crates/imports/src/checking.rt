@@ -7,13 +7,12 @@ ghost use Rattle.imports.specs.Totals.{Adds};
 use super::checked::Checked;
 use super::fault::{FaultyLine, ImportFault, LineFault};
 use super::posting::Posting;
-use super::read::{read_header, read_line};
+use super::read::{HEADER_BYTES, read_header, read_line};
 use super::survey::Survey;
 use super::totals::Totals;
 
-const MOST_BYTES: usize = 32768;
-
-const HEADER_BYTES: usize = 6;
+// No text is longer.
+pub const MOST_BYTES: usize = 32_768;
 
 pub fn check(text: Vec<u8>) -> Result<Checked, ImportFault>
     ensures answer { Checks text.items result }

@@ -13,9 +13,10 @@ mod survey;
 mod totals;
 
 pub use checked::Checked;
-pub use checking::check;
+pub use checking::{MOST_BYTES, check};
 pub use cursor::Postings;
 pub use fault::{FaultyLine, ImportFault, LineFault};
 pub use line::Line;
 pub use posting::Posting;
+pub use read::{HEADER_BYTES, TOP_CELL};
 pub use totals::Totals;

@@ -9,10 +9,8 @@ ghost use Rattle.std.specs.Iterator.{at_most};
 use super::checked::Checked;
 use super::cursor::Postings;
 use super::posting::Posting;
-use super::read::read_line;
+use super::read::{HEADER_BYTES, read_line};
 use money::Code;
-
-const HEADER_BYTES: usize = 6;
 
 impl Checked {
     pub fn code(&self) -> Code

@@ -8,7 +8,11 @@ use super::line::Line;
 use super::posting::Posting;
 use money::{Code, read_amount, read_number};
 
-const TOP_CELL: u64 = 4095;
+// The postings of a text begin behind its first line.
+pub const HEADER_BYTES: usize = 6;
+
+// No cell lies above this.
+pub const TOP_CELL: u16 = 4095;
 
 const MOST_IN_LINE: usize = 80;
 
@@ -129,7 +133,8 @@ fn read_cell(field: &[u8]) -> Result<u16, LineFault>
     let Some(n) = read_number(field) else {
         return Err(LineFault::Cell);
     };
-    if n > TOP_CELL {
+    let top = u64::from(TOP_CELL);
+    if n > top {
         return Err(LineFault::Cell);
     }
     Ok(n as u16)

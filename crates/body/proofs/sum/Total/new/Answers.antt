@@ -13,8 +13,8 @@ use Rattle.body.proofs.sum.Total.new.Goals as goal
 pub returns : goal.returns
 returns c =
     let plan = total_plan c.args.first c.args.last c.args.target in
-    let follows = follows_total (record { first = c.args.first; last = c.args.last; target = c.args.target; step = Done }) c.if-first-last.false c.if-last-gt-TOP_CELL.false in (
-      (c.if-first-last.false, c.if-last-gt-TOP_CELL.false, c.if-target-gt-TOP_CELL.false),
+    let follows = follows_total (record { first = c.args.first; last = c.args.last; target = c.args.target; step = Done }) c.if-first-last.false (omega (arith, c.if-last-top.false, c.from-top.ensures)) in (
+      (c.if-first-last.false, omega (arith, c.if-last-top.false, c.from-top.ensures), omega (arith, c.if-target-top.false, c.from-top.ensures)),
       record {
         starts = refl;
         follows = follows;
