@@ -17,12 +17,9 @@ pub fn line(
     ensures distinct { Distinct }
 {
     let kept = journal.get(i).ok_or(LineRefusal::NoRecord)?;
-    let len = buffer.len();
-    if place > len {
-        return Err(LineRefusal::NoPlace);
-    }
+    let space = buffer.len().checked_sub(place).ok_or(LineRefusal::NoPlace)?;
     let text = kept.text();
-    if text.len() > len - place {
+    if text.len() > space {
         return Err(LineRefusal::NoSpace);
     }
     let end = place + text.len();
