@@ -1,3 +1,1 @@
 pub mod Distinct
-pub mod Lengths
-pub mod Puts

@@ -24,8 +24,3 @@ Distinct = (r s : Record) → FitsRecord r → FitsRecord s → line_of r ≡ li
 -- The buffer with these bytes from this place on, and every other byte as it was.
 abbrev pub put : ℕ → List ℕ → List ℕ → List ℕ
 put place bytes buffer = take place buffer ++ (bytes ++ drop (place + length bytes) buffer)
-
--- These bytes are put into the buffer from the place on: the place after them, and the buffer then.
-pub record Puts (place : ℕ) (bytes buffer : List ℕ) (end : ℕ) (after : List ℕ) : Type 0 where
-  pub ends : end ≡ place + length bytes
-  pub holds : after ≡ put place bytes buffer

@@ -5,7 +5,7 @@
 mod lines;
 mod record;
 mod refusal;
-mod write;
+mod text;
 
 pub use lines::line;
 pub use record::Record;

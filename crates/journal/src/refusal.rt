@@ -5,21 +5,17 @@ ghost use Rattle.journal.specs.Refusals.{line_refusal_number};
 #[derive(Clone, Copy, Debug, PartialEq, Eq)]
 pub enum LineRefusal {
     // The journal has no such record.
-    NoRecord,
+    NoRecord = 50,
     // The place lies beyond the buffer's end.
-    NoPlace,
+    NoPlace = 51,
     // Too little space follows the place.
-    NoSpace,
+    NoSpace = 52,
 }
 
 impl LineRefusal {
     pub fn number(self) -> u32
         ensures { result ≡ line_refusal_number self }
     {
-        match self {
-            LineRefusal::NoRecord => 50,
-            LineRefusal::NoPlace => 51,
-            LineRefusal::NoSpace => 52,
-        }
+        self as u32
     }
 }

@@ -7,18 +7,9 @@ use std::test::Fail;
 // A byte that no line has.
 const MARKER: u8 = 170;
 
-fn push_markers(buffer: &mut Vec<u8>, count: usize) -> Result<(), AllocError> {
-    for _ in 0..count {
-        buffer.push(MARKER)?;
-    }
-    Ok(())
-}
-
 // A buffer of so many marker bytes.
 pub(crate) fn marked(heap: Global, size: usize) -> Result<Vec<u8>, AllocError> {
-    let mut buffer = Vec::new(heap);
-    push_markers(&mut buffer, size)?;
-    Ok(buffer)
+    vec![in heap; MARKER; size]
 }
 
 // The line of record `i` is this text, in a buffer with so many bytes before it and so many behind it.
@@ -34,7 +25,7 @@ pub(crate) fn writes(
     let mut expected = marked(heap, before)?;
     expected.extend_from_slice(text.as_bytes())?;
     let end = expected.len();
-    push_markers(&mut expected, behind)?;
+    expected.extend_from_slice(marked(heap, behind)?.as_slice())?;
     let mut buffer = marked(heap, expected.len())?;
     assert_eq!(rt;
         line(journal, i, buffer.as_mut_slice(), before),
@@ -45,6 +36,19 @@ pub(crate) fn writes(
         buffer.as_slice() == expected.as_slice(),
         "the buffer: {text}"
     );
+    Ok(())
+}
+
+// The line of each record is the text beside it, and the record prints as its line.
+pub(crate) fn writes_each(
+    rt: &impl Abort,
+    heap: Global,
+    table: &[(Record, &str)],
+) -> Result<(), Fail> {
+    for (record, text) in table.iter().copied() {
+        writes(rt, heap, &[record], 0, text, 3, 5)?;
+        assert_eq!(rt; record.to_string(heap)?.as_str(), text);
+    }
     Ok(())
 }
 

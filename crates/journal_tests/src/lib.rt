@@ -8,4 +8,6 @@ mod forms;
 #[cfg(test)]
 mod places;
 #[cfg(test)]
+mod records;
+#[cfg(test)]
 mod refusals;

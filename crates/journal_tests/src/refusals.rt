@@ -1,5 +1,6 @@
 // Where a line is refused, and with which number.
 use super::buffers::{refuses, writes};
+use super::records::{change, commit};
 use journal::LineRefusal::{NoPlace, NoRecord, NoSpace};
 use journal::{LineRefusal, Record, line};
 use std::alloc::Global;
@@ -23,9 +24,9 @@ const JOURNAL: [Record; 2] = [
 ];
 
 // The greatest number of a record or of a place.
-const MOST: usize = 18_446_744_073_709_551_615;
+const MOST: usize = usize::MAX;
 
-// Record, size of the buffer, place.
+// Record, size of the buffer, place: a row is a tuple, since a struct's literal with names would take five lines.
 fn refuse_each(
     rt: &impl Abort,
     heap: Global,
@@ -115,30 +116,28 @@ fn no_space(rt: HostRuntime) -> Result<(), Fail> {
 fn one_byte_short(rt: HostRuntime) -> Result<(), Fail> {
     let heap = rt.alloc();
     let table = [
-        (0, 0, 0, 7),
-        (9, 10, -1, 9),
-        (4_294_967_295, 0, 10, 17),
-        (1, 2, 1_000_000_000_000_000, 22),
-        (1, 2, -1_000_000_000_000_000, 23),
-        (1, 2, 9_223_372_036_854_775_807, 25),
-        (1, 2, -9_223_372_036_854_775_808, 26),
+        (change(0, 0, 0), 7),
+        (change(9, 10, -1), 9),
+        (change(4_294_967_295, 0, 10), 17),
+        (change(1, 2, 1_000_000_000_000_000), 22),
+        (change(1, 2, -1_000_000_000_000_000), 23),
+        (change(1, 2, 9_223_372_036_854_775_807), 25),
+        (change(1, 2, -9_223_372_036_854_775_808), 26),
+        (
+            commit(
+                4_294_967_295,
+                4_294_967_295,
+                4_294_967_295,
+                4_294_967_295,
+                4_294_967_295,
+            ),
+            56,
+        ),
     ];
-    for (number, cell, amount, size) in table {
-        let journal = [Record::Change {
-            number,
-            cell,
-            amount,
-        }];
-        refuses(&rt, heap, &journal, 0, size, 0, NoSpace)?;
+    for (record, size) in table {
+        refuses(&rt, heap, &[record], 0, size, 0, NoSpace)?;
     }
-    let journal = [Record::Commit {
-        number: 4_294_967_295,
-        seat: 4_294_967_295,
-        kind: 4_294_967_295,
-        tag: 4_294_967_295,
-        count: 4_294_967_295,
-    }];
-    refuses(&rt, heap, &journal, 0, 56, 0, NoSpace)
+    Ok(())
 }
 
 // Lines fill a buffer; each refusal after them leaves them as they are.
