@@ -1,39 +1,30 @@
 -- What reading the letter and the fields of a line has found. Assumes nothing.
-use Rattle.std.proofs.Common.{◌≡◌, ℕ, List, [], ◌∷◌, ◌++◌, length, get_or, sym, ap, ◌∙◌, arith}
+use Rattle.std.proofs.Common.{◌≡◌, ℕ, List, [], ◌∷◌, ◌++◌, sym, ◌∙◌, arith}
 use Rattle.money.specs.Fields.{Lacks}
 use Rattle.imports.specs.Lines.{Fields, heading, post, transfer, parted, Whole}
-use Rattle.money.proofs.Cuts.{cut_same}
+use Rattle.money.proofs.Cuts.{head, tail, cut_same}
 
--- one byte in front of the first tab
-pub single : (l : List ℕ) (x : ℕ) → length l ≡ 1 → get_or l 0 0 ≡ x → l ≡ x ∷ []
-single [] x e h = absurd (omega arith)
-single (y ∷ []) x e h = ap (λ z. z ∷ []) h
-single (y ∷ z ∷ l) x e h = absurd (omega arith)
+-- a line that begins with a P has the fields of a post or none, and one that begins with a T those of a transfer or none
+module _ (bytes rest : List ℕ) where
+  other : {x y : ℕ} {s t : List ℕ} → (x ≡ y → ⊥) → bytes ≡ x ∷ s → bytes ≡ y ∷ t → ⊥
+  other n p q = n (head (sym p ∙ q))
 
--- the letter and the fields, from the first tab of a line
+  pub no_post : bytes ≡ 80 ∷ 9 ∷ rest → ((cell amount : List ℕ) → Lacks 9 cell → Lacks 9 amount → rest ≡ cell ++ 9 ∷ amount → ⊥) → (f : Fields) → Whole f → bytes ≡ parted f → ⊥
+  no_post is none (heading c) w e = other (omega arith) is e
+  no_post is none (post c a) w e = none c a w.0 w.1 (tail (tail (sym is ∙ e)))
+  no_post is none (transfer c o a) w e = other (omega arith) is e
+
+  pub no_transfer : bytes ≡ 84 ∷ 9 ∷ rest → ((cell other amount : List ℕ) → Lacks 9 cell → Lacks 9 other → Lacks 9 amount → rest ≡ cell ++ 9 ∷ (other ++ 9 ∷ amount) → ⊥) → (f : Fields) → Whole f → bytes ≡ parted f → ⊥
+  no_transfer is none (heading c) w e = other (omega arith) is e
+  no_transfer is none (post c a) w e = other (omega arith) is e
+  no_transfer is none (transfer c o a) w e = none c o a w.0 w.1 w.2 (tail (tail (sym is ∙ e)))
+
+-- what stands in front of the first tab of a line that has fields is one of three letters
 module _ (bytes l r : List ℕ) (lacks : Lacks 9 l) (cut : bytes ≡ l ++ 9 ∷ r) where
-  lettered : (x : ℕ) (s : List ℕ) → (x ≡ 9 → ⊥) → bytes ≡ x ∷ 9 ∷ s → (l ≡ x ∷ []) × (r ≡ s)
-  lettered x s n e = cut_same 9 l (x ∷ []) r s lacks (n, tt) (sym cut ∙ e)
+  lettered : (x : ℕ) (s : List ℕ) → (x ≡ 9 → ⊥) → bytes ≡ x ∷ 9 ∷ s → l ≡ x ∷ []
+  lettered x s n e = (cut_same 9 l (x ∷ []) r s lacks (n, tt) (sym cut ∙ e)).0
 
-  first : (x : ℕ) → l ≡ x ∷ [] → get_or l 0 0 ≡ x
-  first x e = ap (λ s. get_or s 0 0) e
-
-  -- there are no fields where each letter is ruled out
-  pub refute :
-      ((code : List ℕ) → get_or l 0 0 ≡ 72 → Lacks 9 code → r ≡ code → ⊥)
-      → ((cell amount : List ℕ) → get_or l 0 0 ≡ 80 → Lacks 9 cell → Lacks 9 amount → r ≡ cell ++ 9 ∷ amount → ⊥)
-      → ((cell other amount : List ℕ) → get_or l 0 0 ≡ 84 → Lacks 9 cell → Lacks 9 other → Lacks 9 amount → r ≡ cell ++ 9 ∷ (other ++ 9 ∷ amount) → ⊥)
-      → (f : Fields) → Whole f → bytes ≡ parted f → ⊥
-  refute h p t (heading c) w e = let is = lettered 72 c (omega arith) e in h c (first 72 is.0) w is.1
-  refute h p t (post c a) w e = let is = lettered 80 _ (omega arith) e in p c a (first 80 is.0) w.0 w.1 is.1
-  refute h p t (transfer c o a) w e =
-      let is = lettered 84 _ (omega arith) e in t c o a (first 84 is.0) w.0 w.1 w.2 is.1
-
-  -- the front of a line is one letter
-  pub one_letter : (f : Fields) → Whole f → bytes ≡ parted f → length l ≡ 1
-  one_letter (heading c) w e = ap length (lettered 72 c (omega arith) e).0
-  one_letter (post c a) w e = ap length (lettered 80 _ (omega arith) e).0
-  one_letter (transfer c o a) w e = ap length (lettered 84 _ (omega arith) e).0
-
-  pub behind : (x : ℕ) → length l ≡ 1 → get_or l 0 0 ≡ x → bytes ≡ x ∷ 9 ∷ r
-  behind x long h = cut ∙ ap (λ s. s ++ 9 ∷ r) (single l x long h)
+  pub no_letter : (l ≡ 72 ∷ [] → ⊥) → (l ≡ 80 ∷ [] → ⊥) → (l ≡ 84 ∷ [] → ⊥) → (f : Fields) → Whole f → bytes ≡ parted f → ⊥
+  no_letter h p t (heading c) w e = h (lettered 72 c (omega arith) e)
+  no_letter h p t (post c a) w e = p (lettered 80 _ (omega arith) e)
+  no_letter h p t (transfer c o a) w e = t (lettered 84 _ (omega arith) e)

@@ -1,6 +1,8 @@
 -- One posting from the front of those that a text still has. Assumes nothing.
-use Rattle.std.proofs.Common.{◌≡◌, ℕ, ◌+◌, ◌≤◌, List, [], ◌∷◌, ◌++◌, length, drop, Some, None, Option, sym, refl, ap, ◌∙◌, subst, append-nil, arith, length-append, length-drop}
+use Rattle.std.proofs.Common.{Result, Ok, Err, MatchResult, ◌≡◌, ℕ, ◌+◌, ◌≤◌, List, [], ◌∷◌, ◌++◌, length, drop, Some, None, Option, sym, refl, ap, ◌∙◌, subst, append-nil, arith, length-append, length-drop}
 use mathlib.Core.Path.{subst₃}
+use Rattle.std.specs.Result.{result_ok}
+use Rattle.std.proofs.lemmas.Option.{none-some}
 use Rattle.std.specs.List.{flat_map}
 use Rattle.std.proofs.lemmas.List.{append_cancel_left, drop-drop, drop_at}
 use Rattle.money.specs.Amounts.{places}
@@ -14,6 +16,11 @@ use Rattle.imports.specs.Lines.{Row, rows, First, row_faults, line_faults}
 use Rattle.imports.specs.Reading.{FirstRowFault, Begins}
 use Rattle.imports.proofs.Sofar.{line_some}
 use Rattle.imports.proofs.Writing.{posting_row, rows_lines, same_row, good_row}
+
+-- what is known of a fault, where nothing was read
+pub at_fault : {T E : Type 0} (r : Result T E) (P : T → Type 0) (Q : E → Type 0) → result_ok r ≡ None → MatchResult r P Q → (fault : E) × Q fault
+at_fault (Ok x) P Q none h = absurd (none-some x (sym none))
+at_fault (Err fault) P Q none h = (fault, h)
 
 -- what is left after a posting's line, in bytes
 pub begins_within : (k : ℕ) (text : List ℕ) (at used : ℕ) (p : Posting) → at ≤ length text → Begins k (drop at text) p used → at + used ≤ length text

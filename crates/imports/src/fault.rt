@@ -6,7 +6,7 @@ ghost use Rattle.imports.specs.Numbers.{import_fault_line, import_fault_number, 
 
 use money::AmountFault;
 
-#[derive(Clone, Copy, Debug, PartialEq)]
+#[derive(Clone, Copy, Debug, PartialEq, Eq)]
 pub enum LineFault {
     // The line is not ended, or longer than 80 bytes.
     End,
@@ -46,13 +46,13 @@ impl From<AmountFault> for LineFault {
 }
 
 // A line, counted from 1, with its fault.
-#[derive(Clone, Copy, Debug, PartialEq)]
+#[derive(Clone, Copy, Debug, PartialEq, Eq)]
 pub struct FaultyLine {
     pub line: u32,
     pub fault: LineFault,
 }
 
-#[derive(Clone, Copy, Debug, PartialEq)]
+#[derive(Clone, Copy, Debug, PartialEq, Eq)]
 pub enum ImportFault {
     // The text is empty, or longer than 32,768 bytes.
     Size,

@@ -71,16 +71,11 @@ impl Iterator for Postings<'_> {
     ghost remaining = { λ s. at_most (length s.text.now - s.at) };
 
     fn next(&mut self) -> Option<Posting> {
-        let len = self.text.len();
-        if self.at >= len {
+        if self.at >= self.text.len() {
             return None;
         }
-        match read_line(self.code, &self.text[self.at..len]) {
-            Ok((posting, used)) => {
-                self.at += used;
-                Some(posting)
-            }
-            Err(_) => None,
-        }
+        let (posting, used) = read_line(self.code, &self.text[self.at..]).ok()?;
+        self.at += used;
+        Some(posting)
     }
 }

@@ -40,50 +40,39 @@ fn first_row(text: &[u8]) -> Result<&[u8], LineFault>
     requires { 0 < length text.now }
     ensures { ReadsFirstRow text.now result }
 {
-    let Some((row, _)) = cut(text, b'\n') else {
-        return Err(LineFault::End);
-    };
-    if row.len() > MOST_IN_LINE {
-        return Err(LineFault::End);
+    match cut(text, b'\n') {
+        Some((row, _)) if row.len() <= MOST_IN_LINE => Ok(row),
+        _ => Err(LineFault::End),
     }
-    Ok(row)
 }
 
 // The code of a header without its end.
 fn read_heading(row: &[u8]) -> Result<Code, LineFault>
     ensures { ReadsHeading row.now result }
 {
-    let Some(line) = read_fields(row) else {
+    let Some(Line::Header { code }) = read_fields(row) else {
         return Err(LineFault::Header);
     };
-    let Line::Header { code } = line else {
-        return Err(LineFault::Header);
-    };
-    match Code::new(code) {
-        Some(code) => Ok(code),
-        None => Err(LineFault::Header),
-    }
+    Code::new(code).ok_or(LineFault::Header)
 }
 
 // The posting of a line without its end.
 fn read_row(code: Code, row: &[u8]) -> Result<Posting, LineFault>
     ensures { ReadsRow (places code.letters) row.now result }
 {
-    let Some(line) = read_fields(row) else {
-        return Err(LineFault::Letter);
-    };
-    match line {
-        Line::Header { .. } => Err(LineFault::Letter),
-        Line::Post { cell, amount } => {
+    match read_fields(row) {
+        Some(Line::Post { cell, amount }) => {
             let cell = read_cell(cell)?;
             let amount = read_amount(code, amount)?;
             Ok(Posting::Post { cell, amount })
         }
-        Line::Transfer {
-            cell,
-            other,
-            amount,
-        } => {
+        Some(
+            Line::Transfer {
+                cell,
+                other,
+                amount,
+            },
+        ) => {
             let from = read_cell(cell)?;
             let to = read_cell(other)?;
             if from == to {
@@ -92,6 +81,7 @@ fn read_row(code: Code, row: &[u8]) -> Result<Posting, LineFault>
             let amount = read_amount(code, amount)?;
             Ok(Posting::Transfer { from, to, amount })
         }
+        Some(Line::Header { .. }) | None => Err(LineFault::Letter),
     }
 }
 
@@ -100,20 +90,17 @@ fn read_fields(row: &[u8]) -> Option<Line<'_>>
     ensures { ReadsFields row.now result }
 {
     let (letter, fields) = cut(row, b'\t')?;
-    if letter.len() != 1 {
-        return None;
-    }
-    match letter[0] {
-        b'H' => {
+    match letter {
+        b"H" => {
             let code = last_field(fields)?;
             Some(Line::Header { code })
         }
-        b'P' => {
+        b"P" => {
             let (cell, rest) = cut(fields, b'\t')?;
             let amount = last_field(rest)?;
             Some(Line::Post { cell, amount })
         }
-        b'T' => {
+        b"T" => {
             let (cell, rest) = cut(fields, b'\t')?;
             let (other, rest) = cut(rest, b'\t')?;
             let amount = last_field(rest)?;
@@ -130,23 +117,20 @@ fn read_fields(row: &[u8]) -> Option<Line<'_>>
 fn read_cell(field: &[u8]) -> Result<u16, LineFault>
     ensures { ReadsCell field.now result }
 {
-    let Some(n) = read_number(field) else {
-        return Err(LineFault::Cell);
-    };
-    let top = u64::from(TOP_CELL);
-    if n > top {
-        return Err(LineFault::Cell);
+    match read_number(field) {
+        Some(n) if n <= u64::from(TOP_CELL) => Ok(n as u16),
+        _ => Err(LineFault::Cell),
     }
-    Ok(n as u16)
 }
 
 // The field itself, where no tab follows.
 fn last_field(field: &[u8]) -> Option<&[u8]>
     ensures { LastField field.now result }
 {
-    match cut(field, b'\t') {
-        None => Some(field),
-        Some(_) => None,
+    if field.contains(&b'\t') {
+        None
+    } else {
+        Some(field)
     }
 }
 
@@ -154,11 +138,6 @@ fn last_field(field: &[u8]) -> Option<&[u8]>
 fn cut(text: &[u8], mark: u8) -> Option<(&[u8], &[u8])>
     ensures { Cuts mark text.now result }
 {
-    let len = text.len();
-    for i in 0..len {
-        if text[i] == mark {
-            return Some((&text[0..i], &text[i + 1..len]));
-        }
-    }
-    None
+    let at = text.iter().position(|b| *b == mark)?;
+    Some((&text[..at], &text[at + 1..]))
 }

@@ -1,10 +1,10 @@
 -- Amounts with a sign, from amounts with none. Assumes nothing.
-use Rattle.std.proofs.Common.{◌≡◌, ℕ, zero, suc, ◌-◌, ◌/◌, ◌^◌, ◌<◌, ◌≤◌, ◌⊎◌, List, [], ◌∷◌, length, get_or, drop, pos, negsuc, ◌-ℤ◌, sym, ap, ◌∙◌, subst, ⊎_elim, div-lt_iff_lt-mul, arith, w64, to_z, of_z}
+use Rattle.std.proofs.Common.{◌≡◌, ℕ, zero, suc, ◌-◌, ◌/◌, ◌^◌, ◌<◌, ◌≤◌, List, ◌∷◌, drop, pos, negsuc, ◌-ℤ◌, sym, ap, ◌∙◌, subst, div-lt_iff_lt-mul, arith, w64, to_z, of_z}
 use native.Mathlib.Nat.{pow-le-pow_right}
 use Rattle.std.proofs.lemmas.Nat.{mul-le}
 use Rattle.std.proofs.lemmas.Int.{to_z_pos, to_z-of_z, ints}
-use Rattle.money.specs.Amounts.{bound, units_text, amount_text, Writes, Malformed}
-use Rattle.money.proofs.Units.{units_same, units_first}
+use Rattle.money.specs.Amounts.{bound, units_text, Writes, Malformed}
+use Rattle.money.proofs.Units.{units_same, minus_not_units}
 
 pub ten_power : (k : ℕ) → k ≤ 2 → 10 ^ k ≤ 100
 ten_power k h = pow-le-pow_right {n = 10} (omega arith) h
@@ -27,32 +27,21 @@ negated (suc n) some fits =
     ∙ to_z-of_z w64 (negsuc n) (record { sfits = omega arith })
     ∙ ap negsuc (sym back)
 
-module _ (k : ℕ) (s : List ℕ) where
-  pub plain_none : (length s ≡ 0) ⊎ (get_or s 0 0 ≡ 45 → ⊥) → ((n : ℕ) → n / 10 ^ k < bound → s ≡ units_text k n → ⊥) → Malformed k s
-  plain_none front none (pos n) w = none n w.0 w.1
-  plain_none front none (negsuc n) w =
-      ⊎_elim (λ e. let z : length (amount_text k (negsuc n)) ≡ 0 = sym (ap length w.1) ∙ e in omega arith) (λ ne. ne (ap (λ l. get_or l 0 0) w.1)) front
+-- a text behind a minus
+module _ (k : ℕ) (s : List ℕ) {rest : List ℕ} (minus : s ≡ 45 ∷ rest) where
+  pub minus_none : ((n : ℕ) → n / 10 ^ k < bound → rest ≡ units_text k n → ⊥) → Malformed k s
+  minus_none none (pos n) w = minus_not_units k n rest w.0 (sym w.1 ∙ minus)
+  minus_none none (negsuc n) w = none (suc n) w.0 (ap (drop 1) (sym minus ∙ w.1))
 
-  not_digit : get_or s 0 0 ≡ 45 → (n : ℕ) → n / 10 ^ k < bound → s ≡ units_text k n → ⊥
-  not_digit first n small e = omega (arith, (units_first k n small).0, ap (λ l. get_or l 0 0) e, first)
-
-  pub minus_none : get_or s 0 0 ≡ 45 → ((n : ℕ) → n / 10 ^ k < bound → drop 1 s ≡ units_text k n → ⊥) → Malformed k s
-  minus_none first none (pos n) w = not_digit first n w.0 w.1
-  minus_none first none (negsuc n) w = none (suc n) w.0 (ap (drop 1) w.1)
-
-  pub minus_zero : get_or s 0 0 ≡ 45 → 0 / 10 ^ k < bound → drop 1 s ≡ units_text k 0 → Malformed k s
-  minus_zero first small e (pos n) w = not_digit first n w.0 w.1
-  minus_zero first small e (negsuc n) w =
-      let z = units_same k 0 (suc n) small w.0 (sym e ∙ ap (drop 1) w.1) in
+  pub minus_zero : 0 / 10 ^ k < bound → rest ≡ units_text k 0 → Malformed k s
+  minus_zero small e (pos n) w = minus_not_units k n rest w.0 (sym w.1 ∙ minus)
+  minus_zero small e (negsuc n) w =
+      let z = units_same k 0 (suc n) small w.0 (sym e ∙ ap (drop 1) (sym minus ∙ w.1)) in
       omega (arith, z)
 
-  pub minus_some : 0 < length s → get_or s 0 0 ≡ 45 → (n : ℕ) → 0 < n → n / 10 ^ k < bound → drop 1 s ≡ units_text k n → Writes k s (negsuc (n - 1))
-  minus_some long first n some small e =
+  pub minus_some : (n : ℕ) → 0 < n → n / 10 ^ k < bound → rest ≡ units_text k n → Writes k s (negsuc (n - 1))
+  minus_some n some small e =
       let back : suc (n - 1) ≡ n = omega arith in (
         subst (λ m. m / 10 ^ k < bound) (sym back) small,
-        front s long first ∙ ap (λ l. 45 ∷ l) (e ∙ ap (units_text k) (sym back)),
+        minus ∙ ap (λ l. 45 ∷ l) (e ∙ ap (units_text k) (sym back)),
       )
-    where
-      front : (l : List ℕ) → 0 < length l → get_or l 0 0 ≡ 45 → l ≡ 45 ∷ drop 1 l
-      front [] h e = absurd (omega arith)
-      front (x ∷ l) h e = ap (λ y. y ∷ l) e

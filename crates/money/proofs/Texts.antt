@@ -1,5 +1,5 @@
 -- The writing of amounts: one text stands for one amount, has no byte below the minus, and is short. Assumes nothing.
-use Rattle.std.proofs.Common.{◌≡◌, ℕ, zero, suc, ◌+◌, ◌/◌, ◌^◌, ◌<◌, ◌≤◌, List, [], ◌∷◌, length, get_or, drop, ℤ, pos, negsuc, decimal, sym, ap, arith, length-append}
+use Rattle.std.proofs.Common.{◌≡◌, ℕ, zero, suc, ◌+◌, ◌/◌, ◌^◌, ◌<◌, ◌≤◌, List, [], ◌∷◌, length, drop, ℤ, pos, negsuc, decimal, sym, ap, arith, length-append}
 use lib.Signed.{mag}
 use Rattle.std.specs.Str.Parse.{AllDigits}
 use Rattle.std.specs.Fmt.{signed_decimal}
@@ -10,7 +10,7 @@ use Rattle.std.proofs.lemmas.Str.Parse.{digit_from_value}
 use Rattle.money.specs.Amounts.{bound, fraction, padded, units_text, amount_text, Short}
 use Rattle.money.specs.Fields.{Lacks}
 use Rattle.money.proofs.Numbers.{few_digits}
-use Rattle.money.proofs.Units.{units_same, units_first, digits_padded, length_padded}
+use Rattle.money.proofs.Units.{units_same, minus_not_units, digits_padded, length_padded}
 
 -- no byte below the minus, so no tab and no end of a line
 abbrev pub High : List ℕ → Type 0
@@ -53,9 +53,6 @@ units_short k n small =
 pub amount_short : (k : ℕ) (z : ℤ) → Short k z → length (amount_text k z) ≤ k + 17
 amount_short k (pos n) small = omega (arith, units_short k n small)
 amount_short k (negsuc n) small = omega (arith, units_short k (suc n) small)
-
-minus_not_units : (k n : ℕ) (s : List ℕ) → n / 10 ^ k < bound → units_text k n ≡ 45 ∷ s → ⊥
-minus_not_units k n s small e = omega (arith, (units_first k n small).0, ap (λ l. get_or l 0 0) e)
 
 pub amount_same : (k : ℕ) (y z : ℤ) → Short k y → Short k z → amount_text k y ≡ amount_text k z → y ≡ z
 amount_same k (pos m) (pos n) p q e = ap pos (units_same k m n p q e)

@@ -1,5 +1,5 @@
 -- The digits after the point, and amounts with no sign. Assumes nothing.
-use Rattle.std.proofs.Common.{◌≡◌, ℕ, zero, suc, ◌+◌, ◌*◌, ◌/◌, ◌%◌, ◌^◌, ◌<◌, ◌≤◌, List, [], ◌∷◌, ◌++◌, length, get_or, take, drop, decimal, sym, refl, ap, ◌∙◌, subst, append_assoc, mul_assoc, pow-suc, arith, length-append, length-drop}
+use Rattle.std.proofs.Common.{◌≡◌, ℕ, zero, suc, ◌+◌, ◌*◌, ◌/◌, ◌%◌, ◌^◌, ◌<◌, ◌≤◌, List, [], ◌∷◌, ◌++◌, length, get_or, take, drop, decimal, sym, refl, ap, ◌∙◌, subst, mul_assoc, pow-suc, arith, length-append}
 use native.Mathlib.Nat.{pow-succ', div-div-eq-div-mul}
 use lib.Arith.{digits_div}
 use Rattle.std.specs.Str.Parse.{AllDigits, digits_value, digits_value_after}
@@ -7,7 +7,7 @@ use Rattle.std.specs.Char.{digit_value as digitValue}
 use Rattle.std.specs.Int.{IsInRange}
 use Rattle.std.proofs.lemmas.Fmt.{decimal_injective}
 use Rattle.std.proofs.lemmas.Int.Digits.{digits_push, digits_value_push, digits_value-lt}
-use Rattle.std.proofs.lemmas.List.{length_push, get_or_at, take_at, drop_at, take-append-drop, drop_more, append_cancel_right, get_or_append_left}
+use Rattle.std.proofs.lemmas.List.{length_push, take_at, drop_at, take-append-drop, append_cancel_right, get_or_append_left}
 use Rattle.std.proofs.lemmas.Str.Parse.{digit_from_value, digit_at}
 use Rattle.money.specs.Amounts.{bound, padded, fraction, units_text}
 use Rattle.money.proofs.Numbers.{digit_value, some_digits, all_digits}
@@ -77,50 +77,33 @@ module _ (k n : ℕ) (pos : 0 < k) where
     front : length (decimal (n / 10 ^ k)) ≡ p
     front = omega (arith, units_length, at, ap length is)
 
-    pub point_there : get_or s p 0 ≡ 46
-    point_there = ap (λ l. get_or l p 0) (is ∙ units_parts) ∙ get_or_at (decimal (n / 10 ^ k)) 46 (padded k n) 0 p front
-
     pub whole_there : take p s ≡ decimal (n / 10 ^ k)
     whole_there = ap (take p) (is ∙ units_parts) ∙ take_at (decimal (n / 10 ^ k)) (46 ∷ padded k n) p front
 
-    pub part_there : drop (p + 1) s ≡ padded k n
-    part_there =
-        ap (drop (p + 1)) (is ∙ units_parts ∙ sym (append_assoc (decimal (n / 10 ^ k)) (46 ∷ []) (padded k n)))
-        ∙ drop_at (decimal (n / 10 ^ k) ++ 46 ∷ []) (padded k n) (p + 1) (length_push (decimal (n / 10 ^ k)) 46 ∙ omega (arith, front))
+    pub part_there : drop p s ≡ 46 ∷ padded k n
+    part_there = ap (drop p) (is ∙ units_parts) ∙ drop_at (decimal (n / 10 ^ k)) (46 ∷ padded k n) p front
 
 -- the whole units and the digits after the point make up the amount
-module _ (k : ℕ) (pos : 0 < k) (p w : ℕ) (s : List ℕ) (at : length s ≡ p + k + 1) (point : get_or s p 0 ≡ 46) (small : w < bound) (whole : take p s ≡ decimal w) (digits : AllDigits 10 (drop (p + 1) s)) where
-  part : List ℕ
-  part = drop (p + 1) s
-
-  long : length part ≡ k
-  unfolding part
-  long = length-drop (p + 1) s ∙ omega (arith, at)
-
-  pub part_small : digits_value 10 (drop (p + 1) s) < 10 ^ k
-  unfolding part
+module _ (k : ℕ) (some : 0 < k) (p w : ℕ) (s part : List ℕ) (whole : take p s ≡ decimal w) (point : drop p s ≡ 46 ∷ part) (long : length part ≡ k) (digits : AllDigits 10 part) where
+  pub part_small : digits_value 10 part < 10 ^ k
   part_small = subst (λ l. digits_value 10 part < 10 ^ l) long (digits_value-lt 10 part digits)
 
-  pub units_whole : (w * 10 ^ k + digits_value 10 (drop (p + 1) s)) / 10 ^ k ≡ w
+  pub units_whole : (w * 10 ^ k + digits_value 10 part) / 10 ^ k ≡ w
   units_whole = digits_div w part_small
 
-  same : padded k (w * 10 ^ k + digits_value 10 (drop (p + 1) s)) ≡ drop (p + 1) s
-  unfolding part
+  same : padded k (w * 10 ^ k + digits_value 10 part) ≡ part
   same =
-      let m = w * 10 ^ k + digits_value 10 (drop (p + 1) s) in
+      let m = w * 10 ^ k + digits_value 10 part in
       let back = value_padded k m in
       let front : m / 10 ^ k * 10 ^ k ≡ w * 10 ^ k = ap (λ x. x * 10 ^ k) units_whole in
       same_digits (padded k m) part (digits_padded k m) digits (length_padded k m ∙ sym long) (omega (arith, back, front))
 
-  pub units_joined : s ≡ units_text k (w * 10 ^ k + digits_value 10 (drop (p + 1) s))
+  pub units_joined : s ≡ units_text k (w * 10 ^ k + digits_value 10 part)
   units_joined =
-      let m = w * 10 ^ k + digits_value 10 (drop (p + 1) s) in
-      let here : p < length s = omega (arith, at) in
       sym (take-append-drop p s)
-      ∙ ap (λ l. l ++ drop p s) whole
-      ∙ ap (λ l. decimal w ++ l) (drop_more s p 0 here ∙ ap (λ b. b ∷ drop (p + 1) s) point)
+      ∙ (λ i. whole i ++ point i)
       ∙ sym (λ i. decimal (units_whole i) ++ 46 ∷ same i)
-      ∙ sym (units_parts k m pos)
+      ∙ sym (units_parts k (w * 10 ^ k + digits_value 10 part) some)
 
 -- one text, one number
 pub units_same : (k n m : ℕ) → n / 10 ^ k < bound → m / 10 ^ k < bound → units_text k n ≡ units_text k m → n ≡ m
@@ -134,7 +117,7 @@ units_same (suc k) n m p q e =
     let long = units_length (suc k) n pos in
     let whole : n / 10 ^ suc k ≡ m / 10 ^ suc k =
     decimal_injective _ _ (omega arith) (omega arith) (sym (whole_there (suc k) n pos at s refl long) ∙ whole_there (suc k) m pos at s e long) in
-    let part = ap (digits_value 10) (sym (part_there (suc k) n pos at s refl long) ∙ part_there (suc k) m pos at s e long) in
+    let part = ap (λ l. digits_value 10 (drop 1 l)) (sym (part_there (suc k) n pos at s refl long) ∙ part_there (suc k) m pos at s e long) in
     let power = ap (λ x. x * 10 ^ suc k) whole in
     omega (arith, part, power, value_padded (suc k) n, value_padded (suc k) m)
 
@@ -146,3 +129,7 @@ pub units_first : (k n : ℕ) → n / 10 ^ k < bound → IsInRange 48 57 (get_or
 units_first k n small =
     let some = some_digits (n / 10 ^ k) small in
     rw get_or_append_left (digit_at (decimal (n / 10 ^ k)) 0 (all_digits (n / 10 ^ k) small) some)
+
+-- so it is no minus
+pub minus_not_units : (k n : ℕ) (s : List ℕ) → n / 10 ^ k < bound → units_text k n ≡ 45 ∷ s → ⊥
+minus_not_units k n s small e = omega (arith, (units_first k n small).0, ap (λ l. get_or l 0 0) e)

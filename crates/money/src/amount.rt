@@ -11,18 +11,15 @@ pub const LIMIT: u64 = 1_000_000_000_000_000;
 
 #[derive(Clone, Copy, Debug, PartialEq, Eq)]
 pub enum AmountFault {
-    Form,
-    Limit,
+    Form = 66,
+    Limit = 67,
 }
 
 impl AmountFault {
     pub fn number(self) -> u32
         ensures { result ≡ amount_fault_number self }
     {
-        match self {
-            AmountFault::Form => 66,
-            AmountFault::Limit => 67,
-        }
+        self as u32
     }
 }
 
@@ -49,16 +46,12 @@ fn read_signed(places: u32, field: &[u8]) -> Option<i64>
     requires { places ≤ 2 }
     ensures { ReadsSigned places field.now result }
 {
-    let len = field.len();
-    if len == 0 || field[0] != b'-' {
-        let units = read_units(places, field)?;
-        return Some(units as i64);
-    }
-    let units = read_units(places, &field[1..len])?;
-    if units == 0 {
-        None
-    } else {
-        Some(-(units as i64))
+    let Some(unsigned) = field.strip_prefix(b"-") else {
+        return Some(read_units(places, field)? as i64);
+    };
+    match read_units(places, unsigned)? {
+        0 => None,
+        units => Some(-(units as i64)),
     }
 }
 
@@ -70,16 +63,10 @@ fn read_units(places: u32, field: &[u8]) -> Option<u64>
     if places == 0 {
         return read_number(field);
     }
-    let after = places as usize;
-    let len = field.len();
-    if len < after + 1 {
-        return None;
-    }
-    let point = len - after - 1;
-    if field[point] != b'.' {
-        return None;
-    }
-    let whole = read_number(&field[0..point])?;
-    let part = digits_value(&field[point + 1..len])?;
+    let point = field.len().checked_sub(places as usize + 1)?;
+    let (whole, fraction) = field.split_at(point);
+    let digits = fraction.strip_prefix(b".")?;
+    let whole = read_number(whole)?;
+    let part = digits_value(digits)?;
     Some(whole * 10u64.pow(places) + part)
 }

@@ -8,14 +8,11 @@ const MOST_DIGITS: usize = 15;
 pub fn read_number(field: &[u8]) -> Option<u64>
     ensures { ReadsNumber field.now result }
 {
-    let len = field.len();
-    if len == 0 || len > MOST_DIGITS {
-        return None;
+    match field {
+        [] | [b'0', _, ..] => None,
+        _ if field.len() > MOST_DIGITS => None,
+        _ => digits_value(field),
     }
-    if field[0] == b'0' && len > 1 {
-        return None;
-    }
-    digits_value(field)
 }
 
 // The value of a field of digits, zeros in front included.

@@ -1,9 +1,9 @@
-use Rattle.std.proofs.Common.{◌-◌, length}
+use Rattle.std.proofs.Common.{length}
 use Rattle.imports.proofs.Sofar.{Sofar}
 use Rattle.imports.proofs.checking.survey.Given as goal
 
-abbrev pub invariant-loop-at : goal.invariant-loop-at
-invariant-loop-at l = Sofar l.text l.code.letters l.at l.totals
+abbrev pub invariant-loop-rest : goal.invariant-loop-rest
+invariant-loop-rest l = Sofar l.text l.code.letters l.rest l.totals
 
-abbrev pub decreases-loop-at : goal.decreases-loop-at
-decreases-loop-at l = length l.text - l.at
+abbrev pub decreases-loop-rest : goal.decreases-loop-rest
+decreases-loop-rest l = length l.rest

@@ -8,32 +8,32 @@ use Rattle.imports.specs.Reading.{borrowed}
 use Rattle.imports.proofs.Ladders.{twice_fault, amount_fault}
 use Rattle.imports.proofs.read.read_row.Goals as goal
 
-pub returns-in_err-amount-in-Post : goal.returns-in_err-amount-in-Post
-returns-in_err-amount-in-Post c =
-    let p = err_from_is_err_and c.from_residual-in_err-amount-in-Post.result c.from_residual-in_err-amount-in-Post.ensures.1 in
-    let fields = subst (λ (l : Line). Whole (borrowed l) × (c.args.row.now ≡ parted (borrowed l))) c.in-Post.is c.in-Some.ensures in
-    let cell = c.in_ok-cell-in-Post.ensures in
+pub returns-in_err-amount-in-Some-Post : goal.returns-in_err-amount-in-Some-Post
+returns-in_err-amount-in-Some-Post c =
+    let p = err_from_is_err_and c.from_residual-in_err-amount-in-Some-Post.result c.from_residual-in_err-amount-in-Some-Post.ensures.1 in
+    let fields = subst (λ (l : Line). Whole (borrowed l) × (c.args.row.now ≡ parted (borrowed l))) c.in-Some-Post.field-0-is c.in-Some-Post.ensures in
+    let cell = c.in_ok-cell-in-Some-Post.ensures in
     rw (p.1, p.2)
-    (amount_fault (places c.args.code.letters) c.args.row.now (post c.in-Post.cell.now c.in-Post.amount.now) fields.0 fields.1 tt
-    (λ bad. bad _ cell.0 cell.1) (λ one. one) c.in_err-amount-in-Post.field-0.0 c.in_err-amount-in-Post.ensures)
+    (amount_fault (places c.args.code.letters) c.args.row.now (post c.in-Some-Post.cell.now c.in-Some-Post.amount.now) fields.0 fields.1 tt
+    (λ bad. bad _ cell.0 cell.1) (λ one. one) c.in_err-amount-in-Some-Post.field-0.0 c.in_err-amount-in-Some-Post.ensures)
 
 pub returns-then-from-to : goal.returns-then-from-to
 returns-then-from-to c =
-    let fields = subst (λ (l : Line). Whole (borrowed l) × (c.args.row.now ≡ parted (borrowed l))) c.in-Transfer.is c.in-Some.ensures in
-    let from = c.in_ok-from-in-Transfer.ensures in
-    let to = c.in_ok-to-in-Transfer.ensures in
-    twice_fault (places c.args.code.letters) c.args.row.now (transfer c.in-Transfer.cell.now c.in-Transfer.other.now c.in-Transfer.amount.now) fields.0 fields.1 tt
+    let fields = subst (λ (l : Line). Whole (borrowed l) × (c.args.row.now ≡ parted (borrowed l))) c.in-Some-Transfer.field-0-is c.in-Some-Transfer.ensures in
+    let from = c.in_ok-from-in-Some-Transfer.ensures in
+    let to = c.in_ok-to-in-Some-Transfer.ensures in
+    twice_fault (places c.args.code.letters) c.args.row.now (transfer c.in-Some-Transfer.cell.now c.in-Some-Transfer.other.now c.in-Some-Transfer.amount.now) fields.0 fields.1 tt
     (⊎_elim (λ bad. bad _ from.0 from.1) (λ bad. bad _ to.0 to.1))
     (from.1 ∙ ap decimal c.if-from-to.true ∙ sym to.1)
 
-pub returns-in_err-amount-in-Transfer : goal.returns-in_err-amount-in-Transfer
-returns-in_err-amount-in-Transfer c =
-    let p = err_from_is_err_and c.from_residual-in_err-amount-in-Transfer.result c.from_residual-in_err-amount-in-Transfer.ensures.1 in
-    let fields = subst (λ (l : Line). Whole (borrowed l) × (c.args.row.now ≡ parted (borrowed l))) c.in-Transfer.is c.in-Some.ensures in
-    let from = c.in_ok-from-in-Transfer.ensures in
-    let to = c.in_ok-to-in-Transfer.ensures in
+pub returns-in_err-amount-in-Some-Transfer : goal.returns-in_err-amount-in-Some-Transfer
+returns-in_err-amount-in-Some-Transfer c =
+    let p = err_from_is_err_and c.from_residual-in_err-amount-in-Some-Transfer.result c.from_residual-in_err-amount-in-Some-Transfer.ensures.1 in
+    let fields = subst (λ (l : Line). Whole (borrowed l) × (c.args.row.now ≡ parted (borrowed l))) c.in-Some-Transfer.field-0-is c.in-Some-Transfer.ensures in
+    let from = c.in_ok-from-in-Some-Transfer.ensures in
+    let to = c.in_ok-to-in-Some-Transfer.ensures in
     rw (p.1, p.2)
-    (amount_fault (places c.args.code.letters) c.args.row.now (transfer c.in-Transfer.cell.now c.in-Transfer.other.now c.in-Transfer.amount.now) fields.0 fields.1 tt
+    (amount_fault (places c.args.code.letters) c.args.row.now (transfer c.in-Some-Transfer.cell.now c.in-Some-Transfer.other.now c.in-Some-Transfer.amount.now) fields.0 fields.1 tt
     (⊎_elim (λ bad. bad _ from.0 from.1) (λ bad. bad _ to.0 to.1))
     (λ one. c.if-from-to.false (decimal_injective _ _ (omega (arith, from.0)) (omega (arith, to.0)) (sym from.1 ∙ one ∙ to.1)))
-    c.in_err-amount-in-Transfer.field-0.0 c.in_err-amount-in-Transfer.ensures)
+    c.in_err-amount-in-Some-Transfer.field-0.0 c.in_err-amount-in-Some-Transfer.ensures)
