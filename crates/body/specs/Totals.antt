@@ -86,5 +86,5 @@ total_members = record {
   left = total_left;
   reach = total_reach;
   len = total_len;
-  kind = 2;
+  KIND = 2;
 }

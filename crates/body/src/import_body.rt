@@ -12,6 +12,8 @@ use money::is_within;
 impl Body for Import {
     const KIND: u32 = 1;
 
+    ghost KIND = { 1 };
+
     ghost asks = { import_asks };
 
     ghost told = { import_told };
@@ -25,8 +27,6 @@ impl Body for Import {
     ghost reach = { import_reach };
 
     ghost len = { import_len };
-
-    ghost kind = { 1 };
 
     ghost lawful = { import_lawful };
 

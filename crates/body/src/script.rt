@@ -10,6 +10,8 @@ use super::steps::{Script, ScriptStep};
 impl Body for Script {
     const KIND: u32 = 3;
 
+    ghost KIND = { 3 };
+
     ghost asks = { script_asks };
 
     ghost told = { script_told };
@@ -23,8 +25,6 @@ impl Body for Script {
     ghost reach = { script_reach };
 
     ghost len = { script_len };
-
-    ghost kind = { 3 };
 
     ghost lawful = { script_lawful };
 

@@ -11,6 +11,8 @@ use money::is_within;
 impl Body for Total {
     const KIND: u32 = 2;
 
+    ghost KIND = { 2 };
+
     ghost asks = { total_asks };
 
     ghost told = { total_told };
@@ -24,8 +26,6 @@ impl Body for Total {
     ghost reach = { total_reach };
 
     ghost len = { total_len };
-
-    ghost kind = { 2 };
 
     ghost lawful = { total_lawful };
 
