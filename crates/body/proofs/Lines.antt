@@ -101,6 +101,14 @@ took_some b was r p after is told e f g h k = at (drop was.taken (postings was.c
         let same : p ≡ q = cc (is, some.0) in
         same_import b (took_next was.checked was.taken was.unposted (q ∷ qs)) e f (g ∙ some.1) (h ∙ ap steps.Read same) k
 
+-- the place behind a posting that was taken
+pub place_behind : (was : Import) (p : Posting) (after : ℕ) → LineRead was (Some p) after → after ≡ place was.checked (was.taken + 1)
+place_behind was p after told = at (drop was.taken (postings was.checked)) told
+  where
+    at : (ps : List Posting) → LineReads was.checked was.taken ps (Some p) after → after ≡ place was.checked (was.taken + 1)
+    at [] none = let z : ◌≡◌ {A = ℕ} 0 1 = cc in absurd (omega arith)
+    at (q ∷ qs) some = some.1
+
 -- there was none
 pub took_none : (b was : Import) (r : Option Posting) (after : ℕ) → r ≡ None → LineRead was r after → b.checked ≡ was.checked → b.taken ≡ was.taken → b.at ≡ was.at → b.step ≡ steps.Done → b.unposted ≡ was.unposted → b ≡ next_line was.checked was.taken was.unposted
 took_none b was r after is told e f g h k = at (drop was.taken (postings was.checked)) told

@@ -1,4 +1,4 @@
-use Rattle.std.proofs.Common.{◌≡◌, ℕ, ◌≤◌, pos, Ok, refl, subst, arith}
+use Rattle.std.proofs.Common.{ℕ, ◌≤◌, pos, Ok, refl, subst, arith}
 use Rattle.body.specs.Makers.{MakesTotal, no_result, top_cell}
 use Rattle.body.specs.Outcomes.{totalled}
 use Rattle.body.specs.Plans.{carried_out}
