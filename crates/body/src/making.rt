@@ -76,8 +76,7 @@ fn reach_of_steps(steps: &[ScriptStep]) -> Option<u32>
 {
     let mut reach = 0;
     for step in steps {
-        let one = step.reach()?;
-        reach = one.max(reach);
+        reach = reach.max(step.reach()?);
     }
     Some(reach)
 }
