@@ -1,7 +1,8 @@
 -- A body that follows a plan does alone what the plan says. Assumes nothing.
-use Rattle.std.proofs.Common.{◌≡◌, ℕ, zero, suc, ◌<◌, ◌≤◌, List, get_or, set, ℤ, pos, refl, ap, ◌∙◌, subst, arith}
+use Rattle.std.proofs.Common.{◌≡◌, ℕ, zero, suc, ◌<◌, ◌≤◌, List, length, get_or, set, ℤ, pos, sym, refl, ap, ◌∙◌, subst, arith}
 use Rattle.body.specs.declared.body.Body.{Ghosts}
 use Rattle.body.specs.declared.request.Request.TheVariants.{Read, Write}
+use Rattle.body.specs.Makers.{Made}
 use Rattle.body.specs.Meaning.{Lawful, ReadTold, WriteTaken}
 use Rattle.body.specs.Plans.{Plan, read, write, end, Done, Follows, run_out, RunsAlone, carried_out}
 use Rattle.body.specs.Serial.{given, go}
@@ -42,6 +43,14 @@ module _ {B R : Type 0} (m : Ghosts B) (result : B → R) (law : Lawful m.asks m
     ends_with = rests p (m.left (m.begin b)) (m.begin b) cs f (omega arith);
   }
 
--- what runs alone as one account says also runs as an account that agrees with it
-pub runs_as : {B R : Type 0} (m : Ghosts B) (result : B → R) (b : B) (d e : List ℤ → Done R) (cs : List ℤ) → ((d cs).outcome ≡ (e cs).outcome) × ((d cs).result ≡ (e cs).result) → RunsAlone m result b d cs → RunsAlone m result b e cs
-runs_as m result b d e cs same runs = record { outcome = runs.outcome ∙ same.0; ends_with = runs.ends_with ∙ same.1 }
+  -- a body at its start that follows a plan is made of it, where the plan carried out alone is this account
+  pub made : (p : Plan R) (does : List ℤ → Done R) (reach len : ℕ) (b : B) → m.begin b ≡ b → Follows m result p b → m.reach b ≡ reach → m.len b ≡ len → ((cs : List ℤ) → reach ≤ length cs → ((carried_out p cs).outcome ≡ (does cs).outcome) × ((carried_out p cs).result ≡ (does cs).result)) → Made m result p does reach len b
+  made p does reach len b starts follows reaches lasts same = record {
+    starts = starts;
+    follows = follows;
+    alone = λ cs room.
+        let runs = runs_alone p b cs (subst (Follows m result p) (sym starts) follows) in
+        record { outcome = runs.outcome ∙ (same cs room).0; ends_with = runs.ends_with ∙ (same cs room).1 };
+    reaches = reaches;
+    lasts = lasts;
+  }

@@ -16,11 +16,10 @@ use Rattle.body.specs.declared.importing.ImportStep.TheVariants as steps
 use Rattle.body.specs.declared.request.Request.TheVariants.{Read, Write}
 use Rattle.body.specs.Imports.{post_good, transfer_good, import_plan, import_asks, import_at, import_answered, import_written, import_members, took_next, next_line, one_more, skipped, sum64, less64, after_post, after_transfer, entered}
 use Rattle.body.specs.MadeImports.{unposted, MadeImport}
-use Rattle.body.specs.Outcomes.{booked}
-use Rattle.body.specs.Plans.{Plan, read, write, Follows, carried_out}
+use Rattle.body.specs.Plans.{Plan, read, write, Follows}
 use Rattle.body.specs.Reading.{postings, postings_are}
 use Rattle.body.specs.Tests.{on_read, on_write}
-use Rattle.body.proofs.Alone.{runs_alone, runs_as}
+use Rattle.body.proofs.Alone.{made}
 use Rattle.body.proofs.Doing.{does_import}
 use Rattle.body.specs.Imported.{next_checked, import_lawful}
 use Rattle.body.proofs.Lines.{few_told}
@@ -129,11 +128,7 @@ made_import i ps told =
     let follows : Follows import_members unposted (import_plan ps 0) (next_line i 0 0) =
     subst (λ l. Follows import_members unposted (import_plan ps 0) (took_next i 0 0 l)) (sym same)
     (follows_lines i ps 0 0 same (bookable _ i.totals.reach ps told.ranges (omega (arith, totals.1))) (omega (arith, few_told i ps told))) in
-    record {
-      starts = starts;
-      follows = follows;
-      alone = λ cells room. runs_as import_members unposted (next_line i 0 0) (carried_out (import_plan ps 0)) (booked ps) cells (does_import ps cells)
-          (runs_alone import_members unposted import_lawful (import_plan ps 0) (next_line i 0 0) cells (subst (Follows import_members unposted (import_plan ps 0)) (sym starts) follows));
-      reaches = ap (λ (j : Checked). j.totals.reach) checked ∙ totals.1;
-      lasts = ap (λ (j : Checked). j.totals.length) checked ∙ totals.2;
-    }
+    made import_members unposted import_lawful _ _ _ _ _ starts follows
+    (ap (λ (j : Checked). j.totals.reach) checked ∙ totals.1)
+    (ap (λ (j : Checked). j.totals.length) checked ∙ totals.2)
+    (λ cells room. does_import ps cells)

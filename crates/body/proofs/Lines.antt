@@ -1,13 +1,15 @@
 -- The next line of an import's text. Assumes nothing.
-use Rattle.std.proofs.Common.{◌≡◌, ℕ, zero, suc, ◌+◌, ◌-◌, ◌<◌, ◌≤◌, List, [], ◌∷◌, ◌++◌, length, take, drop, Some, None, vec_items, Option, sym, refl, ap, ◌∙◌, subst, ⊎_elim, arith, length-append, length-drop}
+use Rattle.std.proofs.Common.{◌≡◌, ℕ, ◌+◌, ◌-◌, ◌<◌, ◌≤◌, List, [], ◌∷◌, ◌++◌, length, take, drop, Some, None, vec_items, Option, sym, refl, ap, ◌∙◌, subst, ⊎_elim, arith, length-append, length-drop}
 use mathlib.Core.HLevel.{×_prop}
 use mathlib.Core.Logic.{∥∥₁_elim}
 use native.Mathlib.Nat.{ℕ_set}
 use base.Stored.{Coded-set}
 use Rattle.std.specs.List.{flat_map}
 use Rattle.std.proofs.ByRecursion.{All-drop}
-use Rattle.std.proofs.lemmas.List.{drop_all, drop-drop, take-append-drop, drop_at, append_assoc}
+use Rattle.std.proofs.lemmas.List.{drop_all, drop-drop, take-append-drop, drop_at}
 use Rattle.std.proofs.lemmas.Bool.{cases_lt}
+use Rattle.std.proofs.lemmas.Grind.{flat_map-append}
+use Rattle.std.proofs.Math.Seq.{take-add}
 use Rattle.money.specs.Amounts.{places}
 use Rattle.std.specs.contracts.option.Option.{the_row as option-row}
 use Rattle.imports.specs.contracts.posting.Posting.{the_row as posting_row}
@@ -26,17 +28,13 @@ use Rattle.body.specs.Imports.{LineRead, LineReads, took_next, next_line}
 use Rattle.body.specs.Reading.{postings, postings_told, place}
 use Rattle.body.specs.Imported.{same_import}
 
-joined_append : {X : Type 0} (f : X → List ℕ) (xs ys : List X) → flat_map f (xs ++ ys) ≡ flat_map f xs ++ flat_map f ys
-joined_append f [] ys = refl
-joined_append f (x ∷ xs) ys = ap (λ s. f x ++ s) (joined_append f xs ys) ∙ sym (append_assoc (f x) (flat_map f xs) (flat_map f ys))
-
 -- at the place behind some postings stand the others
 left_at : (i : Checked) (ps : List Posting) (n : ℕ) → Tells i ps → Left (places i.code.letters) (vec_items i.text) (6 + length (flat_map (line (places i.code.letters)) (take n ps))) (drop n ps)
 left_at i ps n s =
     let f = line (places i.code.letters) in
     let text = vec_items i.text in
     let whole = ahead _ _ ps s in
-    let parts : drop 6 text ≡ flat_map f (take n ps) ++ flat_map f (drop n ps) = whole.writing ∙ ap (flat_map f) (sym (take-append-drop n ps)) ∙ joined_append f (take n ps) (drop n ps) in
+    let parts : drop 6 text ≡ flat_map f (take n ps) ++ flat_map f (drop n ps) = whole.writing ∙ ap (flat_map f) (sym (take-append-drop n ps)) ∙ flat_map-append f (take n ps) (drop n ps) in
     record {
       within = omega (arith, whole.within, length-drop 6 text, ap length parts, length-append (flat_map f (take n ps)) (flat_map f (drop n ps)));
       ranges = All-drop (InRange (places i.code.letters)) n ps whole.ranges;
@@ -47,16 +45,8 @@ left_at i ps n s =
 place_more : (i : Checked) (n : ℕ) (q : Posting) (qs : List Posting) → drop n (postings i) ≡ q ∷ qs → place i (n + 1) ≡ place i n + length (line (places i.code.letters) q)
 place_more i n q qs e =
     let f = line (places i.code.letters) in
-    let more : take (n + 1) (postings i) ≡ take n (postings i) ++ q ∷ [] = take_next (postings i) n q qs e in
-    omega (arith, ap (λ l. length (flat_map f l)) more, ap length (joined_append f (take n (postings i)) (q ∷ [])), length-append (flat_map f (take n (postings i))) (f q ++ []), length-append (f q) [])
-  where
-    take_next : (xs : List Posting) (n : ℕ) (q : Posting) (qs : List Posting) → drop n xs ≡ q ∷ qs → take (n + 1) xs ≡ take n xs ++ q ∷ []
-    take_next [] zero q qs e = let z : ◌≡◌ {A = ℕ} 0 1 = cc in absurd (omega arith)
-    take_next [] (suc n) q qs e = let z : ◌≡◌ {A = ℕ} 0 1 = cc in absurd (omega arith)
-    take_next (x ∷ xs) zero q qs e = let same : x ≡ q = cc in ap (λ y. y ∷ []) same
-    take_next (x ∷ xs) (suc n) q qs e =
-        let more : suc n + 1 ≡ suc (n + 1) = omega arith in
-        ap (λ m. take m (x ∷ xs)) more ∙ ap (λ l. x ∷ l) (take_next xs n q qs e)
+    let more : take (n + 1) (postings i) ≡ take n (postings i) ++ q ∷ [] = take-add n 1 (postings i) ∙ ap (λ l. take n (postings i) ++ take 1 l) e in
+    omega (arith, ap (λ l. length (flat_map f l)) more, ap length (flat_map-append f (take n (postings i)) (q ∷ [])), length-append (flat_map f (take n (postings i))) (f q ++ []), length-append (f q) [])
 
 option_set : IsSet (Option Posting)
 option_set = Coded-set (option-row posting_row).coded
@@ -79,7 +69,7 @@ line_read b s t r text code at takes =
     n = b.taken
 
     behind : (q : Posting) (qs : List Posting) → drop b.taken (postings b.checked) ≡ q ∷ qs → (r' : Option Posting) → r' ≡ Some q → Takes s r' t → t.at ≡ place b.checked (b.taken + 1)
-    behind q qs e None f h = let z : ◌≡◌ {A = ℕ} 0 1 = cc in absurd (omega arith)
+    behind q qs e None f h = cc
     behind q qs e (Some p) f h =
         let same : p ≡ q = cc in
         h.moves.2
@@ -92,28 +82,35 @@ line_read b s t r text code at takes =
     read (q ∷ qs) e g = (g.0, behind q qs e r g.0 takes)
 
 -- a posting was taken
-pub took_some : (b was : Import) (r : Option Posting) (p : Posting) (after : ℕ) → r ≡ Some p → LineRead was r after → b.checked ≡ was.checked → b.taken ≡ was.taken + 1 → b.at ≡ after → b.step ≡ steps.Read p → b.unposted ≡ was.unposted → b ≡ next_line was.checked was.taken was.unposted
-took_some b was r p after is told e f g h k = at (drop was.taken (postings was.checked)) told
+pub took_some : (b was : Import) (p : Posting) (after : ℕ) → LineRead was (Some p) after → b.checked ≡ was.checked → b.taken ≡ was.taken + 1 → b.at ≡ after → b.step ≡ steps.Read p → b.unposted ≡ was.unposted → b ≡ next_line was.checked was.taken was.unposted
+took_some b was p after told e f g h k = at (drop was.taken (postings was.checked)) told
   where
-    at : (ps : List Posting) → LineReads was.checked was.taken ps r after → b ≡ took_next was.checked was.taken was.unposted ps
-    at [] none = let z : ◌≡◌ {A = ℕ} 0 1 = cc in absurd (omega arith)
+    at : (ps : List Posting) → LineReads was.checked was.taken ps (Some p) after → b ≡ took_next was.checked was.taken was.unposted ps
+    at [] none = cc
     at (q ∷ qs) some =
-        let same : p ≡ q = cc (is, some.0) in
+        let same : p ≡ q = cc (some.0) in
         same_import b (took_next was.checked was.taken was.unposted (q ∷ qs)) e f (g ∙ some.1) (h ∙ ap steps.Read same) k
 
--- there was none
-pub took_none : (b was : Import) (r : Option Posting) (after : ℕ) → r ≡ None → LineRead was r after → b.checked ≡ was.checked → b.taken ≡ was.taken → b.at ≡ was.at → b.step ≡ steps.Done → b.unposted ≡ was.unposted → b ≡ next_line was.checked was.taken was.unposted
-took_none b was r after is told e f g h k = at (drop was.taken (postings was.checked)) told
+-- the place behind a posting that was taken
+pub place_behind : (was : Import) (p : Posting) (after : ℕ) → LineRead was (Some p) after → after ≡ place was.checked (was.taken + 1)
+place_behind was p after told = at (drop was.taken (postings was.checked)) told
   where
-    at : (ps : List Posting) → LineReads was.checked was.taken ps r after → b ≡ took_next was.checked was.taken was.unposted ps
+    at : (ps : List Posting) → LineReads was.checked was.taken ps (Some p) after → after ≡ place was.checked (was.taken + 1)
+    at [] none = cc
+    at (q ∷ qs) some = some.1
+
+-- there was none
+pub took_none : (b was : Import) (after : ℕ) → LineRead was None after → b.checked ≡ was.checked → b.taken ≡ was.taken → b.at ≡ was.at → b.step ≡ steps.Done → b.unposted ≡ was.unposted → b ≡ next_line was.checked was.taken was.unposted
+took_none b was after told e f g h k = at (drop was.taken (postings was.checked)) told
+  where
+    at : (ps : List Posting) → LineReads was.checked was.taken ps None after → b ≡ took_next was.checked was.taken was.unposted ps
     at [] none = same_import b (took_next was.checked was.taken was.unposted []) e f (g ∙ was.placed) h k
-    at (q ∷ qs) some = let z : ◌≡◌ {A = ℕ} 0 1 = cc (is, some.0) in absurd (omega arith)
+    at (q ∷ qs) some = cc (some.0)
 
 -- the place of a line tells that few were taken
-few_taken : (was : Import) (r : Option Posting) (p : Posting) (after : ℕ) → r ≡ Some p → LineRead was r after → was.taken < length (postings was.checked)
-few_taken was r p after is told =
-    ⊎_elim (λ h. h) (λ past. let none = subst (λ ps. LineReads was.checked was.taken ps r after) (drop_all was.taken (postings was.checked) past) told in
-    let z : ◌≡◌ {A = ℕ} 0 1 = cc (is, none) in absurd (omega arith)) (cases_lt was.taken (length (postings was.checked)))
+few_taken : (was : Import) (p : Posting) (after : ℕ) → LineRead was (Some p) after → was.taken < length (postings was.checked)
+few_taken was p after told =
+    ⊎_elim (λ h. h) (λ past. let none = subst (λ ps. LineReads was.checked was.taken ps (Some p) after) (drop_all was.taken (postings was.checked) past) told in cc (none)) (cases_lt was.taken (length (postings was.checked)))
 
 -- an import has at most as many postings as bytes
 lines_long : (k : ℕ) (ps : List Posting) → length ps ≤ length (flat_map (line k) ps)
@@ -128,5 +125,5 @@ few_told i ps s =
 few_postings : (i : Checked) → length (postings i) - 32768 ≡ 0
 few_postings i = ∥∥₁_elim (postings_told i) (ℕ_set _ _) (λ s. omega (arith, few_told i (postings i) s))
 
-pub taken_fits : (was : Import) (r : Option Posting) (p : Posting) (after : ℕ) → r ≡ Some p → LineRead was r after → was.taken < 32768
-taken_fits was r p after is told = omega (arith, few_taken was r p after is told, few_postings was.checked)
+pub taken_fits : (was : Import) (p : Posting) (after : ℕ) → LineRead was (Some p) after → was.taken < 32768
+taken_fits was p after told = omega (arith, few_taken was p after told, few_postings was.checked)

@@ -3,8 +3,8 @@ use Rattle.std.specs.Prelude.{◌≡◌, ℕ, ℤ, refl}
 use Rattle.std.proofs.Common.{ap}
 use Rattle.body.specs.declared.request.Request.{Request}
 use Rattle.body.specs.declared.request.Request.TheVariants.{Read, Write, End}
-use Rattle.body.specs.declared.either.Either.{Either}
-use Rattle.body.specs.declared.either.Either.TheVariants.{Left, Right}
+use Rattle.either.specs.declared.Either.{Either}
+use Rattle.either.specs.declared.Either.TheVariants.{Left, Right}
 use Rattle.body.specs.Meaning.{Lawful, Same, ReadTold, WriteTaken}
 use Rattle.body.specs.Eithers.{either_of, both_of}
 

@@ -1,6 +1,6 @@
 -- One of two kinds, and doing as that one does.
-use Rattle.body.specs.declared.either.Either.{Either}
-use Rattle.body.specs.declared.either.Either.TheVariants.{Left, Right}
+use Rattle.either.specs.declared.Either.{Either}
+use Rattle.either.specs.declared.Either.TheVariants.{Left, Right}
 
 abbrev pub either_of : {A B C : Type 0} → (A → C) → (B → C) → Either A B → C
 either_of f g (Left a) = f a

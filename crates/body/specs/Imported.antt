@@ -72,15 +72,15 @@ write_not_read : (reach d : ℕ) (v : ℤ) (c : ℕ) → kept reach (Write d v) 
 write_not_read reach d v c = at _
   where
     at : (t : Bool) → cond t (Write d v) End ≢ Read c
-    at true e = let z : ◌≡◌ {A = ℕ} 0 1 = cc in omega arith
-    at false e = let z : ◌≡◌ {A = ℕ} 0 1 = cc in omega arith
+    at true e = cc
+    at false e = cc
 
 read_not_write : (reach d c : ℕ) (v : ℤ) → kept reach (Read d) ≢ Write c v
 read_not_write reach d c v = at _
   where
     at : (t : Bool) → cond t (Read d) End ≢ Write c v
-    at true e = let z : ◌≡◌ {A = ℕ} 0 1 = cc in omega arith
-    at false e = let z : ◌≡◌ {A = ℕ} 0 1 = cc in omega arith
+    at true e = cc
+    at false e = cc
 
 module _ (b : Import) where
   skip_weight : import_weight (skipped b) ≡ rest b
@@ -100,7 +100,7 @@ module _ (b : Import) where
       at false = omega (arith, skip_weight)
   lower_answered (steps.WriteBoth f l t g) x c e = absurd (write_not_read (import_reach b) f l c e)
   lower_answered (steps.Write d g) x c e = absurd (write_not_read (import_reach b) d g c e)
-  lower_answered steps.Done x c e = let z : ◌≡◌ {A = ℕ} 0 1 = cc in absurd (omega arith)
+  lower_answered steps.Done x c e = cc
 
   lower_written : (s : ImportStep) (c : ℕ) (v : ℤ) → kept (import_reach b) (import_step_asks s) ≡ Write c v → import_weight (import_written b s) < pending s + rest b
   lower_written (steps.Read (Post d a)) c v e = absurd (read_not_write (import_reach b) d c v e)
@@ -108,7 +108,7 @@ module _ (b : Import) where
   lower_written (steps.ReadOther f t a h) c v e = absurd (read_not_write (import_reach b) t c v e)
   lower_written (steps.WriteBoth f l t g) c v e = omega arith
   lower_written (steps.Write d g) c v e = omega (arith, next_weight b.checked b.taken b.unposted)
-  lower_written steps.Done c v e = let z : ◌≡◌ {A = ℕ} 0 1 = cc in absurd (omega arith)
+  lower_written steps.Done c v e = cc
 
 -- the length that an import tells is that of its postings
 pub length_told : (i : Checked) → i.totals.length ≡ total_length (postings i)

@@ -157,5 +157,5 @@ import_members = record {
   left = import_left;
   reach = import_reach;
   len = import_len;
-  kind = 1;
+  KIND = 1;
 }

@@ -30,8 +30,8 @@ some_left s r e n =
 
 pub counts : Counts raw (λ s a. script_at s (s.done + 1) a) (λ s. script_at s (s.done + 1) s.carried) script_begin weight script_reach script_len
 counts = record {
-  lower_read = λ s a c e. omega (arith, some_left s (Read c) e (λ x. let z : ◌≡◌ {A = ℕ} 0 1 = cc in omega arith));
-  lower_write = λ s c v e. omega (arith, some_left s (Write c v) e (λ x. let z : ◌≡◌ {A = ℕ} 0 1 = cc in omega arith));
+  lower_read = λ s a c e. omega (arith, some_left s (Read c) e (λ x. cc));
+  lower_write = λ s c v e. omega (arith, some_left s (Write c v) e (λ x. cc));
   few = λ s. omega arith;
   same_read = λ s a. record { start = refl; reaches = refl; lasts = refl };
   same_write = λ s. record { start = refl; reaches = refl; lasts = refl };

@@ -60,5 +60,5 @@ script_members = record {
   left = script_left;
   reach = script_reach;
   len = script_len;
-  kind = 3;
+  KIND = 3;
 }

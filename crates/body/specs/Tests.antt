@@ -1,5 +1,5 @@
 -- Tests that code and definitions share.
-use Rattle.std.specs.Prelude.{ℕ, Bool, cond, ◌&&◌, ℤ, nat_lt}
+use Rattle.std.specs.Prelude.{ℕ, cond, ◌&&◌, nat_lt}
 use Rattle.money.specs.Amounts.{within_limit}
 use Rattle.body.specs.declared.request.Request.{Request}
 use Rattle.body.specs.declared.request.Request.TheVariants.{Read, Write, End}

@@ -26,6 +26,12 @@ total_plan first last target = summed (suc (last - first)) first target (pos 0)
 abbrev pub stepped : Total → TotalStep → Total
 stepped t s = record { first = t.first; last = t.last; target = t.target; step = s }
 
+-- The step, where it keeps the laws, and the end in the place of any other.
+abbrev pub kept_step : ℕ → TotalStep → TotalStep
+kept_step last (Read at sum) = cond (nat_le at last) (Read at sum) Done
+kept_step last (Write sum) = cond (within_limit sum) (Write sum) Done
+kept_step last Done = Done
+
 abbrev pub total_asks_at : ℕ → ℕ → TotalStep → Request
 total_asks_at last target (Read at sum) = cond (nat_le at last) (requests.Read at) requests.End
 total_asks_at last target (Write sum) = cond (within_limit sum) (requests.Write target sum) requests.End
@@ -86,5 +92,5 @@ total_members = record {
   left = total_left;
   reach = total_reach;
   len = total_len;
-  kind = 2;
+  KIND = 2;
 }

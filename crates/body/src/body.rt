@@ -9,6 +9,9 @@ pub trait Body: Sized {
     // The number of this kind of body.
     const KIND: u32;
 
+    // The constant, as clauses name it.
+    ghost KIND: { ℕ };
+
     // What it asks for now.
     ghost asks: { Self → Request };
 
@@ -30,9 +33,6 @@ pub trait Body: Sized {
     // The most requests from its start on.
     ghost len: { Self → ℕ };
 
-    // The number of its kind. A generic clause cannot read the constant.
-    ghost kind: { ℕ };
-
     fn request(&self) -> Request
         ensures { result ≡ asks self.now };
 
@@ -52,7 +52,7 @@ pub trait Body: Sized {
         ensures { result ≡ len self.now };
 
     fn kind_of(&self) -> u32
-        ensures { result ≡ kind };
+        ensures { result ≡ KIND };
 
     ghost lawful: { Lawful asks told taken begin left reach len };
 }

@@ -1,6 +1,6 @@
 // An import is a body: it books its postings one after the other, reading its text line by line.
 ghost use Rattle.std.specs.Prelude.{◌≡◌};
-ghost use Rattle.body.specs.Imports.{LineRead, after_first, after_post, after_transfer, entered, import_answered, import_asks, import_begin, import_left, import_len, import_reach, import_step_asks, import_taken, import_told, import_written, next_line, skipped};
+ghost use Rattle.body.specs.Imports.{after_first, after_post, after_transfer, entered, import_answered, import_asks, import_begin, import_left, import_len, import_reach, import_step_asks, import_taken, import_told, import_written, next_line, skipped};
 ghost use Rattle.body.specs.Imported.{import_lawful};
 
 use super::body::Body;
@@ -11,6 +11,8 @@ use money::is_within;
 
 impl Body for Import {
     const KIND: u32 = 1;
+
+    ghost KIND = { 1 };
 
     ghost asks = { import_asks };
 
@@ -26,12 +28,10 @@ impl Body for Import {
 
     ghost len = { import_len };
 
-    ghost kind = { 1 };
-
     ghost lawful = { import_lawful };
 
     fn request(&self) -> Request {
-        step_request(self.step).kept(self.checked.reach())
+        self.step.request().kept(self.checked.reach())
     }
 
     fn tell(&mut self, amount: i64) {
@@ -72,14 +72,14 @@ impl Import {
         ensures { self.new ≡ import_answered self.old self.old.step amount }
     {
         match self.step {
-            ImportStep::Read { posting } => self.enter(after_first(posting, amount)),
+            ImportStep::Read { posting } => self.enter(ImportStep::after_first(posting, amount)),
             ImportStep::ReadOther {
                 from,
                 to,
                 amount: moved,
                 held,
             } => {
-                self.enter(after_transfer(from, to, moved, held, amount));
+                self.enter(ImportStep::after_transfer(from, to, moved, held, amount));
             }
             _ => {}
         }
@@ -116,88 +116,82 @@ impl Import {
         self.take_line();
     }
 
+    // Goes on to the posting that the text has next, or to the end.
     fn take_line(&mut self)
         ensures { self.new ≡ next_line self.old.checked self.old.taken self.old.unposted }
     {
-        let (line, at) = self.read_line();
-        match line {
+        let mut postings = self.checked.postings_from(self.at);
+        match postings.next() {
             Some(posting) => {
                 self.taken += 1;
-                self.at = at;
+                self.at = postings.place();
                 self.step = ImportStep::Read { posting };
             }
             None => self.step = ImportStep::Done,
         }
     }
+}
 
-    // The posting that the text has next, and the place behind its line.
-    fn read_line(&self) -> (Option<Posting>, usize)
-        ensures { LineRead self.now result.0 result.1 }
+impl ImportStep {
+    // What follows the first amount that a posting is given.
+    fn after_first(posting: Posting, held: i64) -> Option<ImportStep>
+        ensures { result ≡ after_first posting held }
     {
-        let mut postings = self.checked.postings_from(self.at);
-        let line = postings.next();
-        (line, postings.place())
+        match posting {
+            Posting::Post { cell, amount } => ImportStep::after_post(cell, amount, held),
+            Posting::Transfer { from, to, amount } => Some(ImportStep::ReadOther {
+                from,
+                to,
+                amount,
+                held,
+            }),
+        }
     }
-}
 
-// What follows the first amount that a posting is given.
-fn after_first(posting: Posting, held: i64) -> Option<ImportStep>
-    ensures { result ≡ after_first posting held }
-{
-    match posting {
-        Posting::Post { cell, amount } => after_post(cell, amount, held),
-        Posting::Transfer { from, to, amount } => Some(ImportStep::ReadOther {
-            from,
-            to,
-            amount,
-            held,
-        }),
+    // The write of a post on a cell that holds `held`.
+    fn after_post(cell: u16, amount: i64, held: i64) -> Option<ImportStep>
+        ensures { result ≡ after_post cell amount held }
+    {
+        let grown = held.saturating_add(amount);
+        if is_within(held) && is_within(grown) {
+            Some(ImportStep::Write { cell, grown })
+        } else {
+            None
+        }
     }
-}
 
-// The write of a post on a cell that holds `held`.
-fn after_post(cell: u16, more: i64, held: i64) -> Option<ImportStep>
-    ensures { result ≡ after_post cell more held }
-{
-    let grown = held.saturating_add(more);
-    if is_within(held) && is_within(grown) {
-        Some(ImportStep::Write { cell, grown })
-    } else {
-        None
+    // The writes of a transfer between cells that hold `held` and `other`.
+    fn after_transfer(from: u16, to: u16, amount: i64, held: i64, other: i64) -> Option<ImportStep>
+        ensures { result ≡ after_transfer from to amount held other }
+    {
+        let left = held.saturating_sub(amount);
+        let grown = other.saturating_add(amount);
+        if is_within(held) && is_within(other) && is_within(left) && is_within(grown) {
+            Some(ImportStep::WriteBoth {
+                from,
+                left,
+                to,
+                grown,
+            })
+        } else {
+            None
+        }
     }
-}
 
-// The writes of a transfer between cells that hold `held` and `other`.
-fn after_transfer(from: u16, to: u16, moved: i64, held: i64, other: i64) -> Option<ImportStep>
-    ensures { result ≡ after_transfer from to moved held other }
-{
-    let left = held.saturating_sub(moved);
-    let grown = other.saturating_add(moved);
-    if is_within(held) && is_within(other) && is_within(left) && is_within(grown) {
-        Some(ImportStep::WriteBoth {
-            from,
-            left,
-            to,
-            grown,
-        })
-    } else {
-        None
-    }
-}
-
-fn step_request(step: ImportStep) -> Request
-    ensures { result ≡ import_step_asks step }
-{
-    match step {
-        ImportStep::Read {
-            posting: Posting::Post { cell, .. },
-        } => Request::Read(usize::from(cell)),
-        ImportStep::Read {
-            posting: Posting::Transfer { from, .. },
-        } => Request::Read(usize::from(from)),
-        ImportStep::ReadOther { to, .. } => Request::Read(usize::from(to)),
-        ImportStep::WriteBoth { from, left, .. } => Request::Write(usize::from(from), left),
-        ImportStep::Write { cell, grown } => Request::Write(usize::from(cell), grown),
-        ImportStep::Done => Request::End,
+    fn request(self) -> Request
+        ensures { result ≡ import_step_asks self }
+    {
+        match self {
+            ImportStep::Read {
+                posting: Posting::Post { cell, .. },
+            } => Request::Read(usize::from(cell)),
+            ImportStep::Read {
+                posting: Posting::Transfer { from, .. },
+            } => Request::Read(usize::from(from)),
+            ImportStep::ReadOther { to, .. } => Request::Read(usize::from(to)),
+            ImportStep::WriteBoth { from, left, .. } => Request::Write(usize::from(from), left),
+            ImportStep::Write { cell, grown } => Request::Write(usize::from(cell), grown),
+            ImportStep::Done => Request::End,
+        }
     }
 }

@@ -2,7 +2,7 @@
 #![tactic(auto)]
 
 mod body;
-mod either;
+mod either_body;
 mod import_body;
 mod import_new;
 mod importing;

@@ -1,7 +1,7 @@
 // Makes totals and scripts, or refuses to.
-ghost use Rattle.std.specs.Prelude.{◌≡◌, MatchOption};
+ghost use Rattle.std.specs.Prelude.{◌≡◌, MatchOption, ◌<◌, ◌≤◌};
 ghost use Rattle.std.specs.List.{AllByRecursion};
-ghost use Rattle.body.specs.Makers.{MakesScript, MakesTotal, SoundStep, script_refusal_number, step_reach, steps_reach, total_refusal_number};
+ghost use Rattle.body.specs.Makers.{MakesScript, MakesTotal, SoundStep, script_refusal_number, step_reach, steps_reach, top_cell, total_refusal_number};
 
 use super::steps::{Script, ScriptRefusal, ScriptStep};
 use super::sum::{Total, TotalRefusal, TotalStep};
@@ -15,20 +15,26 @@ impl Total {
     pub fn new(first: u32, last: u32, target: u32) -> Result<Total, TotalRefusal>
         ensures { MakesTotal first last target result }
     {
-        let top = u32::from(TOP_CELL);
-        if first > last || last > top || target > top {
+        let first = cell_of(first).ok_or(TotalRefusal)?;
+        let last = cell_of(last).ok_or(TotalRefusal)?;
+        let target = cell_of(target).ok_or(TotalRefusal)?;
+        if first > last {
             return Err(TotalRefusal);
         }
         Ok(Total {
-            first: first as u16,
-            last: last as u16,
-            target: target as u16,
-            step: TotalStep::Read {
-                at: first as u16,
-                sum: 0,
-            },
+            first,
+            last,
+            target,
+            step: TotalStep::Read { at: first, sum: 0 },
         })
     }
+}
+
+// The cell of this number, if there is one.
+fn cell_of(number: u32) -> Option<u16>
+    ensures { MatchOption result (top_cell < number) (λ cell. (cell ≡ number) × (number ≤ top_cell)) }
+{
+    u16::try_from(number).ok().filter(|cell| *cell <= TOP_CELL)
 }
 
 impl TotalRefusal {
@@ -46,9 +52,7 @@ impl Script {
         if steps.len() > MOST_STEPS {
             return Err(ScriptRefusal::TooMany);
         }
-        let Some(reach) = reach_of_steps(steps.as_slice()) else {
-            return Err(ScriptRefusal::BadStep);
-        };
+        let reach = reach_of_steps(&steps).ok_or(ScriptRefusal::BadStep)?;
         Ok(Script {
             steps,
             reach,
@@ -62,10 +66,7 @@ impl ScriptRefusal {
     pub fn number(self) -> u32
         ensures { result ≡ script_refusal_number self }
     {
-        match self {
-            ScriptRefusal::TooMany => 71,
-            ScriptRefusal::BadStep => 72,
-        }
+        self as u32
     }
 }
 
@@ -75,22 +76,21 @@ fn reach_of_steps(steps: &[ScriptStep]) -> Option<u32>
 {
     let mut reach = 0;
     for step in steps {
-        let one = reach_of_step(*step)?;
-        reach = one.max(reach);
+        reach = reach.max(step.reach()?);
     }
     Some(reach)
 }
 
-fn reach_of_step(step: ScriptStep) -> Option<u32>
-    ensures { MatchOption result (SoundStep step → ⊥) (λ n. SoundStep step × (n ≡ step_reach step)) }
-{
-    let (cell, amount) = match step {
-        ScriptStep::Read { cell } => (cell, 0),
-        ScriptStep::Put { cell, amount } => (cell, amount),
-        ScriptStep::Carry { cell } => (cell, 0),
-    };
-    if cell > u32::from(TOP_CELL) || !is_within(amount) {
-        return None;
+impl ScriptStep {
+    // The cell that it names, plus 1, if the step is sound.
+    fn reach(self) -> Option<u32>
+        ensures { MatchOption result (SoundStep self → ⊥) (λ n. SoundStep self × (n ≡ step_reach self)) }
+    {
+        let top = u32::from(TOP_CELL);
+        match self {
+            ScriptStep::Read { cell } | ScriptStep::Carry { cell } if cell <= top => Some(cell + 1),
+            ScriptStep::Put { cell, amount } if cell <= top && is_within(amount) => Some(cell + 1),
+            _ => None,
+        }
     }
-    Some(cell + 1)
 }

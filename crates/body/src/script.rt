@@ -10,6 +10,8 @@ use super::steps::{Script, ScriptStep};
 impl Body for Script {
     const KIND: u32 = 3;
 
+    ghost KIND = { 3 };
+
     ghost asks = { script_asks };
 
     ghost told = { script_told };
@@ -24,15 +26,13 @@ impl Body for Script {
 
     ghost len = { script_len };
 
-    ghost kind = { 3 };
-
     ghost lawful = { script_lawful };
 
     fn request(&self) -> Request {
-        if self.done >= self.steps.len() {
-            return Request::End;
+        match self.steps.get(self.done) {
+            Some(step) => step.request(self.carried).kept(self.reach),
+            None => Request::End,
         }
-        step_request(self.steps[self.done], self.carried).kept(self.reach)
     }
 
     fn tell(&mut self, amount: i64) {
@@ -66,12 +66,14 @@ impl Body for Script {
     }
 }
 
-fn step_request(step: ScriptStep, carried: i64) -> Request
-    ensures { result ≡ step_asks carried step }
-{
-    match step {
-        ScriptStep::Read { cell } => Request::Read(cell as usize),
-        ScriptStep::Put { cell, amount } => Request::Write(cell as usize, amount),
-        ScriptStep::Carry { cell } => Request::Write(cell as usize, carried),
+impl ScriptStep {
+    fn request(self, carried: i64) -> Request
+        ensures { result ≡ step_asks carried self }
+    {
+        match self {
+            ScriptStep::Read { cell } => Request::Read(cell as usize),
+            ScriptStep::Put { cell, amount } => Request::Write(cell as usize, amount),
+            ScriptStep::Carry { cell } => Request::Write(cell as usize, carried),
+        }
     }
 }

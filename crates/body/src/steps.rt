@@ -23,7 +23,7 @@ pub struct Script {
 #[derive(Clone, Copy, Debug, PartialEq)]
 pub enum ScriptRefusal {
     // More than 16 steps.
-    TooMany,
+    TooMany = 71,
     // A cell above the highest, or an amount beyond the limit.
-    BadStep,
+    BadStep = 72,
 }

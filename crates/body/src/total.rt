@@ -1,6 +1,6 @@
 // A total is a body: it reads its range in order and writes the sum.
 ghost use Rattle.std.specs.Prelude.{◌≡◌};
-ghost use Rattle.body.specs.Totals.{sum_known, sum_told, total_asks, total_begin, total_left, total_len, total_reach, total_taken, total_told};
+ghost use Rattle.body.specs.Totals.{kept_step, sum_known, sum_told, total_asks, total_begin, total_left, total_len, total_reach, total_taken, total_told};
 ghost use Rattle.body.specs.TotalLaws.{total_lawful};
 
 use super::body::Body;
@@ -10,6 +10,8 @@ use money::is_within;
 
 impl Body for Total {
     const KIND: u32 = 2;
+
+    ghost KIND = { 2 };
 
     ghost asks = { total_asks };
 
@@ -25,34 +27,25 @@ impl Body for Total {
 
     ghost len = { total_len };
 
-    ghost kind = { 2 };
-
     ghost lawful = { total_lawful };
 
     fn request(&self) -> Request {
-        match self.step {
-            TotalStep::Read { at, .. } if at <= self.last => Request::Read(usize::from(at)),
-            TotalStep::Write { sum } if is_within(sum) => Request::Write(
-                usize::from(self.target),
-                sum,
-            ),
-            _ => Request::End,
+        match self.kept_step() {
+            TotalStep::Read { at, .. } => Request::Read(usize::from(at)),
+            TotalStep::Write { sum } => Request::Write(usize::from(self.target), sum),
+            TotalStep::Done => Request::End,
         }
     }
 
     fn tell(&mut self, amount: i64) {
-        if let TotalStep::Read { at, sum } = self.step {
-            if at <= self.last {
-                self.step = after(self.last, at, sum, amount);
-            }
+        if let TotalStep::Read { at, sum } = self.kept_step() {
+            self.step = self.after(at, sum, amount);
         }
     }
 
     fn took(&mut self) {
-        if let TotalStep::Write { sum } = self.step {
-            if is_within(sum) {
-                self.step = TotalStep::Done;
-            }
+        if let TotalStep::Write { .. } = self.kept_step() {
+            self.step = TotalStep::Done;
         }
     }
 
@@ -76,19 +69,32 @@ impl Body for Total {
     }
 }
 
-// What comes after an amount that was read.
-fn after(last: u16, at: u16, sum: i64, amount: i64) -> TotalStep
-    ensures { result ≡ sum_told last at sum amount }
-{
-    if !is_within(amount) {
-        return TotalStep::Done;
+impl Total {
+    // The step, where it keeps the laws; otherwise the end.
+    fn kept_step(&self) -> TotalStep
+        ensures { result ≡ kept_step self.now.last self.now.step }
+    {
+        match self.step {
+            TotalStep::Read { at, .. } if at > self.last => TotalStep::Done,
+            TotalStep::Write { sum } if !is_within(sum) => TotalStep::Done,
+            step => step,
+        }
     }
-    let sum = sum.saturating_add(amount);
-    if at < last {
-        TotalStep::Read { at: at + 1, sum }
-    } else if is_within(sum) {
-        TotalStep::Write { sum }
-    } else {
-        TotalStep::Done
+
+    // What comes after the amount in this cell, of which the sum of those before it is known.
+    fn after(&self, at: u16, sum: i64, amount: i64) -> TotalStep
+        ensures { result ≡ sum_told self.now.last at sum amount }
+    {
+        if !is_within(amount) {
+            return TotalStep::Done;
+        }
+        let sum = sum.saturating_add(amount);
+        if at < self.last {
+            TotalStep::Read { at: at + 1, sum }
+        } else if is_within(sum) {
+            TotalStep::Write { sum }
+        } else {
+            TotalStep::Done
+        }
     }
 }

@@ -36,7 +36,7 @@ pub record IsReady {B : Type 0} (m : Ghosts B) (w : World B) (k : ℕ) (r : Read
   pub held : get_or w.bodies k None ≡ Some body
   pub can : can_step m w k r.seated body ≡ true
   pub step : r.step ≡ step_now m w k r.seated body
-  pub kind : r.kind ≡ m.kind
+  pub kind : r.kind ≡ m.KIND
 
 module _ {B : Type 0} (m : Ghosts B) (w : World B) (k : ℕ) where
   pub is_ready : (r : Ready) → Ok r ≡ ready_of m w k → IsReady m w k r
@@ -47,9 +47,9 @@ module _ {B : Type 0} (m : Ghosts B) (w : World B) (k : ℕ) where
       inner l (Some s) p None q h = let z : ◌≡◌ {A = ℕ} 0 1 = cc in absurd (omega arith)
       inner l (Some s) p (Some b) q h = can (can_step m w k s b) refl h
         where
-          can : (t : Bool) → can_step m w k s b ≡ t → Ok r ≡ cond t (Ok (record { seated = s; step = step_now m w k s b; kind = m.kind })) (Err Lists-refused) → IsReady m w k r
+          can : (t : Bool) → can_step m w k s b ≡ t → Ok r ≡ cond t (Ok (record { seated = s; step = step_now m w k s b; kind = m.KIND })) (Err Lists-refused) → IsReady m w k r
           can true c g =
-              let r≡ : r ≡ record { seated = s; step = step_now m w k s b; kind = m.kind } = cc in
+              let r≡ : r ≡ record { seated = s; step = step_now m w k s b; kind = m.KIND } = cc in
               subst (λ x. IsReady m w k x) (sym r≡) (record { seat = l; seated = p; body = b; held = q; can = c; step = refl; kind = refl })
           can false c g = let z : ◌≡◌ {A = ℕ} 0 1 = cc in absurd (omega arith)
 
@@ -83,7 +83,7 @@ module _ {B : Type 0} (m : Ghosts B) (w : World B) (k : ℕ) where
       inner (Some s) None h = (cc, refl)
       inner (Some s) (Some b) h = can (can_step m w k s b) h
         where
-          can : (t : Bool) → ◌≡◌ {A = Result Ready StepRefusal} (Err x) (cond t (Ok (record { seated = s; step = step_now m w k s b; kind = m.kind })) (Err Lists-refused)) → (◌≡◌ {A = Result Stepped StepRefusal} (Err x) (cond t (Ok (answered m (step_now m w k s b))) (Err Lists-refused))) × (w ≡ (cond t (step_did m w k s b (step_now m w k s b)) (untouched w)).world)
+          can : (t : Bool) → ◌≡◌ {A = Result Ready StepRefusal} (Err x) (cond t (Ok (record { seated = s; step = step_now m w k s b; kind = m.KIND })) (Err Lists-refused)) → (◌≡◌ {A = Result Stepped StepRefusal} (Err x) (cond t (Ok (answered m (step_now m w k s b))) (Err Lists-refused))) × (w ≡ (cond t (step_did m w k s b (step_now m w k s b)) (untouched w)).world)
           can true g = let z : ◌≡◌ {A = ℕ} 0 1 = cc in absurd (omega arith)
           can false g = (cc, refl)
 

@@ -50,15 +50,15 @@ module _ {B : Type 0} (m : Ghosts B) (c : Common) (l : Lists) (b : B) (k : ℕ) 
       ∙ ap (λ x. there (length l.cells.now) (entry_of (work_with b s x W) s.phase)) is-reads
       ∙ ap (λ x. there (length l.cells.now) (entry_of (work_with b s (stretch l.reads.now (reads_from k) s.reads) x) s.phase)) is-writes
 
-  pub planned_some : (z : Step) (kind : ℕ) → there (length l.cells.now) (entry_of (work_with (tt {0}) s R W) s.phase) ≡ true → z ≡ step_at m (shared_of c l.cells.now l.marks.now) k (work_with b s R W) s.phase → kind ≡ m.kind → Some (record { seated = s; step = z; kind = kind }) ≡ planned m c l b k s
+  pub planned_some : (z : Step) (kind : ℕ) → there (length l.cells.now) (entry_of (work_with (tt {0}) s R W) s.phase) ≡ true → z ≡ step_at m (shared_of c l.cells.now l.marks.now) k (work_with b s R W) s.phase → kind ≡ m.KIND → Some (record { seated = s; step = z; kind = kind }) ≡ planned m c l b k s
   planned_some z kind t e q =
       let z≡ = e ∙ ap (λ x. step_at m (shared_of c l.cells.now l.marks.now) k (work_with b s x W) s.phase) is-reads ∙ ap (λ x. step_at m (shared_of c l.cells.now l.marks.now) k (work_with b s (stretch l.reads.now (reads_from k) s.reads) x) s.phase) is-writes in
       ap {B = Option Ready} (λ x. Some (record { seated = s; step = x; kind = kind })) z≡
       ∙ ap {B = Option Ready} (λ x. Some (record { seated = s; step = step_at m (shared_of c l.cells.now l.marks.now) k (work_with b s (stretch l.reads.now (reads_from k) s.reads) (stretch l.writes.now (writes_from k) s.writes)) s.phase; kind = x })) q
-      ∙ ap {B = Option Ready} (λ x. cond x (Some (record { seated = s; step = step_at m (shared_of c l.cells.now l.marks.now) k (work_with b s (stretch l.reads.now (reads_from k) s.reads) (stretch l.writes.now (writes_from k) s.writes)) s.phase; kind = m.kind })) None) (sym t ∙ works)
+      ∙ ap {B = Option Ready} (λ x. cond x (Some (record { seated = s; step = step_at m (shared_of c l.cells.now l.marks.now) k (work_with b s (stretch l.reads.now (reads_from k) s.reads) (stretch l.writes.now (writes_from k) s.writes)) s.phase; kind = m.KIND })) None) (sym t ∙ works)
 
   pub planned_none : there (length l.cells.now) (entry_of (work_with (tt {0}) s R W) s.phase) ≡ false → None ≡ planned m c l b k s
-  planned_none t = ap {B = Option Ready} (λ x. cond x (Some (record { seated = s; step = step_at m (shared_of c l.cells.now l.marks.now) k (work_with b s (stretch l.reads.now (reads_from k) s.reads) (stretch l.writes.now (writes_from k) s.writes)) s.phase; kind = m.kind })) None) (sym t ∙ works)
+  planned_none t = ap {B = Option Ready} (λ x. cond x (Some (record { seated = s; step = step_at m (shared_of c l.cells.now l.marks.now) k (work_with b s (stretch l.reads.now (reads_from k) s.reads) (stretch l.writes.now (writes_from k) s.writes)) s.phase; kind = m.KIND })) None) (sym t ∙ works)
 
 -- A plan as an answer.
 abbrev pub as_answer : Option Ready → Result Ready StepRefusal
@@ -72,6 +72,6 @@ module _ {B : Type 0} (m : Ghosts B) (d : Desk B) (l : Lists) (k : ℕ) where
   pub ready_is : (s : Seated) (b : B) → ltb d.helpers k ≡ false → get_or d.seats k None ≡ Some s → get_or d.bodies k None ≡ Some b → same_sizes w ≡ true → as_answer (planned m d.common l b k s) ≡ ready_of m w k
   ready_is s b h at has lent = rw (h, at, has, lent) (by (there (length l.cells.now) (entry_of (work_of w k s b) s.phase)))
     where
-      by : (t : Bool) → as_answer (cond t (Some (record { seated = s; step = step_now m w k s b; kind = m.kind })) None) ≡ cond (true && t) (Ok (record { seated = s; step = step_now m w k s b; kind = m.kind })) (Err Lists-refused)
+      by : (t : Bool) → as_answer (cond t (Some (record { seated = s; step = step_now m w k s b; kind = m.KIND })) None) ≡ cond (true && t) (Ok (record { seated = s; step = step_now m w k s b; kind = m.KIND })) (Err Lists-refused)
       by true = refl
       by false = refl

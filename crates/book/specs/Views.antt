@@ -143,13 +143,13 @@ module _ {B : Type 0} (m : Ghosts B) where
   planned c l b k s =
       let work = work_with b s (stretch l.reads.now (reads_from k) s.reads) (stretch l.writes.now (writes_from k) s.writes) in
       cond (there (length l.cells.now) (entry_of work s.phase))
-      (Some (record { seated = s; step = step_at m (shared_of c l.cells.now l.marks.now) k work s.phase; kind = m.kind }))
+      (Some (record { seated = s; step = step_at m (shared_of c l.cells.now l.marks.now) k work s.phase; kind = m.KIND }))
       None
 
   abbrev pub ready_by : World B → ℕ → Option Seated → Option B → Result Ready StepRefusal
   ready_by w k None b = Err Idle
   ready_by w k (Some s) None = Err Idle
-  ready_by w k (Some s) (Some b) = cond (can_step m w k s b) (Ok (record { seated = s; step = step_now m w k s b; kind = m.kind })) (Err Lists-refused)
+  ready_by w k (Some s) (Some b) = cond (can_step m w k s b) (Ok (record { seated = s; step = step_now m w k s b; kind = m.KIND })) (Err Lists-refused)
 
   abbrev pub ready_of : World B → ℕ → Result Ready StepRefusal
   ready_of w k = cond (nat_lt w.helpers k) (Err NoSeat) (ready_by w k (slice_index_or w.seats k None) (slice_index_or w.bodies k None))
@@ -169,7 +169,7 @@ moved_with s z reads writes room = record {
 
 -- What keeps a step within bounds.
 pub record CanAct {B : Type 0} (m : Ghosts B) (w : World B) (k : ℕ) (r : Ready) : Type 0 where
-  pub kind_is : r.kind ≡ m.kind
+  pub kind_is : r.kind ≡ m.KIND
   pub seat : k ≤ 8
   pub journal_is : length w.journal ≡ w.sizes.journal
   pub some_marks : 0 < length w.shared.core.marks

@@ -109,7 +109,7 @@ module _ {B : Type 0} (m : Ghosts B) (law : Laws m) where
   module _ (σ : List ℤ) (g : Shared) (C : List (Commit B)) (k : ℕ) (s : Work B) (v : View B) (t : Seated) where
     -- The record of a step, and how many changes the transaction has recorded then.
     abbrev pub record_now : Step → Option Record
-    record_now z = record_by z.effect g.core.number (commit_record m.kind k t z.number z.answer)
+    record_now z = record_by z.effect g.core.number (commit_record m.KIND k t z.number z.answer)
 
     abbrev pub made_now : Step → ℕ
     made_now z = made_by z.effect true t.made
@@ -125,7 +125,7 @@ module _ {B : Type 0} (m : Ghosts B) (law : Laws m) where
 
     module _ (h : Held (length σ) s) (long : t.writes ≡ length s.writes) (keeps : t.keeps ≡ needed k (m.len s.body)) where
       -- Stays, or goes on to a phase, and makes no record.
-      on : (p q : Phase) (a : Answer) → commit_record m.kind k t 0 a ≡ None → Made m t.writes s.body t.made q
+      on : (p q : Phase) (a : Answer) → commit_record m.KIND k t 0 a ≡ None → Made m t.writes s.body t.made q
           → spare t.keeps t.made q ≤ spare t.keeps t.made p → (holds q ≡ true → holds p ≡ true) → Adds p (stays a q)
       on p q a e i c l = record { made = i; cost = rw e (omega arith); deed = rw e (rests (holds q) l) }
 
@@ -151,7 +151,7 @@ module _ {B : Type 0} (m : Ghosts B) (law : Laws m) where
           → Adds p (look_step g.core.number y o)
       adds_look p o y i c = cond_both (odd g.core.number) _ _ (Adds p) (λ e. to (Look o) Waiting refl i refl refl) (λ e. by y o)
         where
-          to : (q : Phase) (a : Answer) → commit_record m.kind k t 0 a ≡ None → Made m t.writes s.body t.made q → holds q ≡ false
+          to : (q : Phase) (a : Answer) → commit_record m.KIND k t 0 a ≡ None → Made m t.writes s.body t.made q → holds q ≡ false
               → spare t.keeps t.made q ≡ t.keeps - t.made → Adds p (stays a q)
           to q a e j f d = on p q a e j (omega arith) (λ x. absurd (false≢true (sym f ∙ x)))
 
@@ -171,7 +171,7 @@ module _ {B : Type 0} (m : Ghosts B) (law : Laws m) where
       adds_master f i (Write c x) = record { made = i; cost = omega arith; deed = rests true (λ e. e) }
       adds_master f i End =
           let a = needed_master k (m.len s.body) f.master in
-          record { made = tt; cost = omega arith; deed = commits_lane k m.kind t.tag refl f.odd }
+          record { made = tt; cost = omega arith; deed = commits_lane k m.KIND t.tag refl f.odd }
 
       adds_run : Facts m σ g.core g.flag C k s v Run → t.made ≡ 0 → (q : Request) → Adds Run (run_step g s q)
       adds_run f i (Read c) = cond_both (has c s.writes) _ _ (λ o. Adds Run (read_step g.core.cells c o))
@@ -182,7 +182,7 @@ module _ {B : Type 0} (m : Ghosts B) (law : Laws m) where
           (λ a. record { made = tt; cost = omega arith; deed = rests false (λ x. x) })
           (λ a. record { made = i; cost = omega arith; deed = rests false (λ x. x) }))
       adds_run f i End = cond_both (eqb (length s.writes) 0) _ _ (Adds Run)
-          (λ e. record { made = tt; cost = omega (arith, some_kept); deed = commits_reader s.start k m.kind t.tag h.even early i })
+          (λ e. record { made = tt; cost = omega (arith, some_kept); deed = commits_reader s.start k m.KIND t.tag h.even early i })
           (λ e. by s.way)
         where
           early : s.start ≤ g.core.number
@@ -257,9 +257,9 @@ module _ {B : Type 0} (m : Ghosts B) (law : Laws m) where
           enough = let a = few f.0.helper f.0.doing f.0.logs in omega arith
 
           by : (y : Way) → Adds Release (release_step g.core.number y)
-          by One = record { made = tt; cost = omega (arith, enough); deed = commits_lane k m.kind t.tag refl f.0.odd }
-          by Two = record { made = tt; cost = omega (arith, enough); deed = commits_lane k m.kind t.tag refl f.0.odd }
-          by Three = record { made = tt; cost = omega (arith, enough); deed = commits_lane k m.kind t.tag refl f.0.odd }
+          by One = record { made = tt; cost = omega (arith, enough); deed = commits_lane k m.KIND t.tag refl f.0.odd }
+          by Two = record { made = tt; cost = omega (arith, enough); deed = commits_lane k m.KIND t.tag refl f.0.odd }
+          by Three = record { made = tt; cost = omega (arith, enough); deed = commits_lane k m.KIND t.tag refl f.0.odd }
       adds LetGo f i = by s.way
         where
           by : (y : Way) → Adds LetGo (let_go_step y)

@@ -281,7 +281,7 @@ module _ {B : Type 0} (m : Ghosts B) where
   has_room w = nat_lt w.used w.sizes.journal
 
   abbrev pub record_of : World B → ℕ → Seated → Step → Option Record
-  record_of w k s z = record_by z.effect w.shared.core.number (commit_record m.kind k s z.number z.answer)
+  record_of w k s z = record_by z.effect w.shared.core.number (commit_record m.KIND k s z.number z.answer)
 
   -- What the book knows of the transaction after a step, but for its phase.
   abbrev pub moved : World B → ℕ → Seated → Step → Seated

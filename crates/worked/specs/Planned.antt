@@ -52,7 +52,7 @@ planned kind = record {
   left = λ b. b.lasts;
   reach = λ b. b.names;
   len = λ b. b.lasts;
-  kind = kind;
+  KIND = kind;
 }
 
 -- The result of what is left of a plan, which counts at its end.

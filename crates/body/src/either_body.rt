@@ -4,18 +4,12 @@ ghost use Rattle.body.specs.Eithered.{either_lawful};
 
 use super::body::Body;
 use super::request::Request;
-
-// The number of this kind.
-const EITHER: u32 = 4;
-
-#[derive(Drop)]
-pub enum Either<A, B> {
-    Left(A),
-    Right(B),
-}
+use either::{Either, for_both};
 
 impl<A: Body, B: Body> Body for Either<A, B> {
-    const KIND: u32 = EITHER;
+    const KIND: u32 = 4;
+
+    ghost KIND = { 4 };
 
     ghost asks = { either_of A.Body.asks B.Body.asks };
 
@@ -31,53 +25,33 @@ impl<A: Body, B: Body> Body for Either<A, B> {
 
     ghost len = { either_of A.Body.len B.Body.len };
 
-    ghost kind = { 4 };
-
     ghost lawful = { either_lawful A.Body.lawful B.Body.lawful };
 
     fn request(&self) -> Request {
-        match self {
-            Either::Left(a) => a.request(),
-            Either::Right(b) => b.request(),
-        }
+        for_both!(self, body => body.request())
     }
 
     fn tell(&mut self, amount: i64) {
-        match self {
-            Either::Left(a) => a.tell(amount),
-            Either::Right(b) => b.tell(amount),
-        }
+        for_both!(self, body => body.tell(amount))
     }
 
     fn took(&mut self) {
-        match self {
-            Either::Left(a) => a.took(),
-            Either::Right(b) => b.took(),
-        }
+        for_both!(self, body => body.took())
     }
 
     fn restart(&mut self) {
-        match self {
-            Either::Left(a) => a.restart(),
-            Either::Right(b) => b.restart(),
-        }
+        for_both!(self, body => body.restart())
     }
 
     fn reach_of(&self) -> usize {
-        match self {
-            Either::Left(a) => a.reach_of(),
-            Either::Right(b) => b.reach_of(),
-        }
+        for_both!(self, body => body.reach_of())
     }
 
     fn length_of(&self) -> usize {
-        match self {
-            Either::Left(a) => a.length_of(),
-            Either::Right(b) => b.length_of(),
-        }
+        for_both!(self, body => body.length_of())
     }
 
     fn kind_of(&self) -> u32 {
-        EITHER
+        Self::KIND
     }
 }
