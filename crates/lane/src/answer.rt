@@ -10,8 +10,8 @@ pub enum Answer {
     Paused,
     // The attempt met a commit and begins anew.
     BrokenOff,
-    // The transaction has committed.
-    Committed,
+    // The transaction has committed, under this number.
+    Committed(u32),
     // The transaction does not fit its logs, and is given up.
     TooLong,
 }

@@ -9,7 +9,6 @@ mod refusal;
 mod seated;
 mod sizes;
 mod step;
-mod stepped;
 mod told;
 mod written;
 
@@ -19,6 +18,5 @@ pub use refusal::{OpenRefusal, PauseRefusal, SeatRefusal, StepRefusal};
 pub use seated::Seated;
 pub use sizes::Sizes;
 pub use step::{Effect, LogChange, Step};
-pub use stepped::Stepped;
 pub use told::Told;
 pub use written::Written;

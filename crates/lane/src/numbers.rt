@@ -14,7 +14,7 @@ impl Answer {
             Answer::Waiting => 1,
             Answer::Paused => 2,
             Answer::BrokenOff => 3,
-            Answer::Committed => 4,
+            Answer::Committed(_) => 4,
             Answer::TooLong => 5,
         }
     }
