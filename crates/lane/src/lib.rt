@@ -3,7 +3,6 @@
 #![tactic(auto)]
 
 mod answer;
-mod numbers;
 mod phase;
 mod refusal;
 mod seated;
