@@ -5,6 +5,7 @@ use mathlib.Core.Logic.{∥∥₁_elim, ∥∥₁_map}
 use native.Mathlib.Bridge.{le_prop}
 use Rattle.std.proofs.lemmas.Bool.{eq-eqb, le-ltb, ltb-false, and_parts}
 use Rattle.body.specs.declared.body.Body.{Ghosts}
+use Rattle.lane.specs.declared.answer.Answer.{Answer}
 use Rattle.lane.specs.declared.phase.Phase.{Phase}
 use Rattle.lane.specs.declared.phase.Phase.TheVariants.{Reserve, MasterLook, Take, MasterRun, Put, Begin, Run, Check, Wait, Look, Prevalidate, Swap, Validate, Mark, Cell, Release, LetGo, Quit, Leave}
 use Rattle.lane.specs.declared.phase.Way.{Way}
@@ -15,9 +16,8 @@ use Rattle.lane.specs.declared.step.Effect.TheVariants.{NumberLowered, QueueJoin
 use Rattle.lane.specs.declared.step.LogChange.{LogChange}
 use Rattle.lane.specs.declared.step.LogChange.TheVariants.{Same, Emptied, Noted, Entered}
 use Rattle.lane.specs.declared.step.Step.{Step}
-use Rattle.lane.specs.declared.stepped.Stepped.{Stepped}
 use Rattle.lane.specs.declared.written.Written.{Written}
-use Rattle.lane.specs.Calls.{answered, same_sizes, can_step, step_now, step_did, step_by, step_call, step_reply, step_reply_by, step_world, untouched}
+use Rattle.lane.specs.Calls.{same_sizes, can_step, step_now, step_did, step_by, step_call, step_reply, step_reply_by, step_world, untouched}
 use Rattle.lane.specs.Effects.{reads_after, writes_after}
 use Rattle.lane.specs.Logs.{most_reads, most_writes}
 use Rattle.lane.specs.Sane.{masters, joined, total, joined_of, lowers, lowers_of, Fair, FairSeat, Sane}
@@ -58,9 +58,9 @@ module _ {B : Type 0} (m : Ghosts B) (w : World B) (k : ℕ) where
       by false l h = inner (ltb-false w.helpers k l) (get_or w.seats k None) refl (get_or w.bodies k None) refl h
 
   -- What the call answers and leaves then.
-  pub ready_reply : (r : Ready) (i : IsReady m w k r) → Ok (record { answer = r.step.answer; number = r.step.number }) ≡ step_reply m w k
+  pub ready_reply : (r : Ready) (i : IsReady m w k r) → Ok r.step.answer ≡ step_reply m w k
   ready_reply r i =
-      ap {B = Result Stepped StepRefusal} (λ (z : Step). Ok (record { answer = z.answer; number = z.number })) i.step
+      ap {B = Result Answer StepRefusal} (λ (z : Step). Ok z.answer) i.step
       ∙ sym (rw (seat_there, i.seated, i.held, i.can))
     where
       seat_there : ltb w.helpers k ≡ false
@@ -83,7 +83,7 @@ module _ {B : Type 0} (m : Ghosts B) (w : World B) (k : ℕ) where
       inner (Some s) None h = (cc, refl)
       inner (Some s) (Some b) h = can (can_step m w k s b) h
         where
-          can : (t : Bool) → ◌≡◌ {A = Result Ready StepRefusal} (Err x) (cond t (Ok (record { seated = s; step = step_now m w k s b; kind = m.KIND })) (Err Lists-refused)) → (◌≡◌ {A = Result Stepped StepRefusal} (Err x) (cond t (Ok (answered m (step_now m w k s b))) (Err Lists-refused))) × (w ≡ (cond t (step_did m w k s b (step_now m w k s b)) (untouched w)).world)
+          can : (t : Bool) → ◌≡◌ {A = Result Ready StepRefusal} (Err x) (cond t (Ok (record { seated = s; step = step_now m w k s b; kind = m.KIND })) (Err Lists-refused)) → (◌≡◌ {A = Result Answer StepRefusal} (Err x) (cond t (Ok (step_now m w k s b).answer) (Err Lists-refused))) × (w ≡ (cond t (step_did m w k s b (step_now m w k s b)) (untouched w)).world)
           can true g = let z : ◌≡◌ {A = ℕ} 0 1 = cc in absurd (omega arith)
           can false g = (cc, refl)
 

@@ -17,7 +17,7 @@ use super::opening::{clear, fresh, refusal};
 use super::refused::SeatRefused;
 use super::ticket::{ResumeRefusal, Ticket};
 use body::Body;
-use lane::{OpenRefusal, PauseRefusal, StepRefusal, Stepped};
+use lane::{Answer, OpenRefusal, PauseRefusal, StepRefusal};
 
 impl<B: Body + Drop> Book<B> {
     // Opens a book over the lists, with so many helpers, at this number.
@@ -49,7 +49,7 @@ impl<B: Body + Drop> Book<B> {
     }
 
     // One atomic step of a seat.
-    pub fn step(&mut self, lists: &mut Lists<'_>, seat: u32) -> Result<Stepped, StepRefusal>
+    pub fn step(&mut self, lists: &mut Lists<'_>, seat: u32) -> Result<Answer, StepRefusal>
         ensures answer { result ≡ step_reply B.Body (book_world self.old lists.old) seat }
         ensures after { book_world self.new lists.new ≡ (step_call B.Body (book_world self.old lists.old) seat).world }
         ensures law { KeepsLaw B.Body (book_world self.old lists.old) (step_call B.Body (book_world self.old lists.old) seat) (book_world self.new lists.new) }

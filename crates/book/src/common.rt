@@ -1,7 +1,7 @@
 // What the seats of a book share, beside its cells and marks.
 use queue::Queue;
 
-#[derive(Clone, Copy)]
+#[derive(Drop)]
 pub(crate) struct Common {
     // The counter word: the number in 31 bits, and the flag.
     pub number: u32,

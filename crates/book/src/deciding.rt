@@ -22,7 +22,7 @@ pub(crate) struct Sight<'a> {
 }
 
 pub(crate) fn decide<B: Body>(
-    common: Common,
+    common: &Common,
     sight: Sight<'_>,
     body: &B,
     seat: u32,
@@ -31,7 +31,7 @@ pub(crate) fn decide<B: Body>(
     requires reads { length sight.reads.now ≤ 64 }
     requires writes { length sight.writes.now ≤ 32 }
     requires narrow { IsNarrow (B.Body.asks body.now) }
-    ensures { result ≡ step_at B.Body (shared_of common sight.entry.cells.now sight.entry.marks.now) seat (work_with body.now seated sight.entry.reads.now sight.entry.writes.now) seated.phase }
+    ensures { result ≡ step_at B.Body (shared_of common.now sight.entry.cells.now sight.entry.marks.now) seat (work_with body.now seated sight.entry.reads.now sight.entry.writes.now) seated.phase }
 {
     match seated.phase {
         Phase::Reserve => steps::reserve(common.paused),
@@ -84,10 +84,10 @@ fn master(number: u32, cells: &[i64], request: Request) -> Step
 }
 
 // What a helper's body asks for.
-fn run(common: Common, sight: Sight<'_>, seated: Seated, request: Request) -> Step
+fn run(common: &Common, sight: Sight<'_>, seated: Seated, request: Request) -> Step
     requires writes { length sight.writes.now ≤ 32 }
     requires narrow { IsNarrow request }
-    ensures { result ≡ run_step (shared_of common sight.entry.cells.now sight.entry.marks.now) (work_with (tt {0}) seated sight.entry.reads.now sight.entry.writes.now) request }
+    ensures { result ≡ run_step (shared_of common.now sight.entry.cells.now sight.entry.marks.now) (work_with (tt {0}) seated sight.entry.reads.now sight.entry.writes.now) request }
 {
     let written = sight.writes.len() as u32;
     match request {

@@ -46,7 +46,7 @@ impl<B: Body> Desk<B> {
         if !self.lent_whole(lists) {
             return Err(StepRefusal::Lists);
         }
-        match plan(self.common, lists, body, seat, seated) {
+        match plan(&self.common, lists, body, seat, seated) {
             Some(ready) => Ok(ready),
             None => Err(StepRefusal::Lists),
         }
@@ -79,7 +79,7 @@ impl<B> Desk<B> {
 
 // What the transaction is to do, unless it works on an entry of no such cell.
 fn plan<B: Body>(
-    common: Common,
+    common: &Common,
     lists: &Lists<'_>,
     body: &B,
     seat: u32,
@@ -91,7 +91,7 @@ fn plan<B: Body>(
     requires reads { reads_from seat + seated.reads ≤ length lists.now.reads.now }
     requires writes { writes_from seat + seated.writes ≤ length lists.now.writes.now }
     requires narrow { IsNarrow (B.Body.asks body.now) }
-    ensures { result ≡ planned B.Body common lists.now body.now seat seated }
+    ensures { result ≡ planned B.Body common.now lists.now body.now seat seated }
 {
     let helper = seat.saturating_sub(1) as usize;
     let reads = part(&*lists.reads, 64 * helper, seated.reads);

@@ -13,7 +13,7 @@ pub(crate) fn record_of(
     number: u32,
     step: Step,
 ) -> Option<Record>
-    ensures { result ≡ record_by step.effect number (commit_record kind seat seated step.number step.answer) }
+    ensures { result ≡ record_by step.effect number (commit_record kind seat seated step.answer) }
 {
     let commit = commit_of(kind, seat, seated, step);
     match step.effect {
@@ -27,11 +27,11 @@ pub(crate) fn record_of(
 }
 
 fn commit_of(kind: u32, seat: u32, seated: Seated, step: Step) -> Option<Record>
-    ensures { result ≡ commit_record kind seat seated step.number step.answer }
+    ensures { result ≡ commit_record kind seat seated step.answer }
 {
     match step.answer {
-        Answer::Committed => Some(Record::Commit {
-            number: step.number,
+        Answer::Committed(number) => Some(Record::Commit {
+            number,
             seat,
             kind,
             tag: seated.tag,

@@ -8,10 +8,10 @@ ghost use Rattle.book.specs.Views.{world};
 use super::desk::Desk;
 use super::lists::Lists;
 use body::Body;
-use lane::{StepRefusal, Stepped};
+use lane::{Answer, StepRefusal};
 
 impl<B: Body> Desk<B> {
-    pub(crate) fn step(&mut self, lists: &mut Lists<'_>, seat: u32) -> Result<Stepped, StepRefusal>
+    pub(crate) fn step(&mut self, lists: &mut Lists<'_>, seat: u32) -> Result<Answer, StepRefusal>
         requires sane { ∥ Sane (world self.old lists.old) ∥₁ }
         requires within { ∥ AllReachWithin B.Body.reach self.old.sizes.cells self.old.bodies ∥₁ }
         ensures answer { result ≡ step_reply B.Body (world self.old lists.old) seat }
@@ -21,10 +21,7 @@ impl<B: Body> Desk<B> {
             Err(refusal) => Err(refusal),
             Ok(ready) => {
                 self.act(lists, seat, ready);
-                Ok(Stepped {
-                    answer: ready.step.answer,
-                    number: ready.step.number,
-                })
+                Ok(ready.step.answer)
             }
         }
     }

@@ -3,13 +3,13 @@ use super::shelf::{Lengths, Shelf, holds, lay, open_on, sits, step_on};
 use body::{Body, Total};
 use book::Book;
 use journal::Record;
-use lane::{Answer, Stepped};
+use lane::Answer;
 use std::alloc::Global;
 use std::process::Abort;
 use std::test::Fail;
 
-// A seat, how many steps it takes, and what each of them answers: the answer and the number.
-pub type Turn = (u32, u32, Answer, u32);
+// A seat, how many steps it takes, and what each of them answers.
+pub type Turn = (u32, u32, Answer);
 
 // A seat, its way, its tag, and its total: the first and the last cell, and the target.
 pub type Chair = (u32, u32, u32, (u32, u32, u32));
@@ -44,13 +44,9 @@ pub(crate) fn turns<B: Body + Drop>(
     words: &str,
 ) -> Result<(), Fail> {
     for turn in table {
-        let (seat, times, answer, number) = *turn;
+        let (seat, times, answer) = *turn;
         for _ in 0..times {
-            assert_eq!(rt;
-                step_on(book, shelf, seat)?,
-                Stepped { answer, number },
-                "{words}"
-            );
+            assert_eq!(rt; step_on(book, shelf, seat)?, answer, "{words}");
         }
     }
     Ok(())

@@ -44,46 +44,46 @@ const MASTER_DONE: Record = Commit {
 // Both join, in the order of their seats. The second waits until the first has left, which is a step after its commit. From
 // its turn on each waits no more, looks, finds its two entries fresh, swaps, and sets mark and cell.
 const ONE_BY_ONE: &[Turn] = &[
-    (1, 5, GoneOn, 0),
-    (2, 5, GoneOn, 0),
-    (2, 2, Waiting, 0),
-    (1, 3, GoneOn, 0),
-    (2, 1, Waiting, 0),
-    (1, 4, GoneOn, 0),
-    (2, 1, Waiting, 0),
-    (1, 1, Committed, 1),
-    (2, 1, Waiting, 0),
-    (1, 1, GoneOn, 0),
-    (2, 7, GoneOn, 0),
-    (2, 1, Committed, 3),
-    (2, 1, GoneOn, 0),
+    (1, 5, GoneOn),
+    (2, 5, GoneOn),
+    (2, 2, Waiting),
+    (1, 3, GoneOn),
+    (2, 1, Waiting),
+    (1, 4, GoneOn),
+    (2, 1, Waiting),
+    (1, 1, Committed(1)),
+    (2, 1, Waiting),
+    (1, 1, GoneOn),
+    (2, 7, GoneOn),
+    (2, 1, Committed(3)),
+    (2, 1, GoneOn),
 ];
 
 // The second has read the cell that the first writes. It finds this before it takes the lane, leaves the queue, and begins
 // anew.
 const BEGUN_ANEW: &[Turn] = &[
-    (1, 5, GoneOn, 0),
-    (2, 5, GoneOn, 0),
-    (2, 1, Waiting, 0),
-    (1, 7, GoneOn, 0),
-    (1, 1, Committed, 1),
-    (1, 1, GoneOn, 0),
-    (2, 3, GoneOn, 0),
-    (2, 1, BrokenOff, 0),
-    (2, 12, GoneOn, 0),
-    (2, 1, Committed, 3),
-    (2, 1, GoneOn, 0),
+    (1, 5, GoneOn),
+    (2, 5, GoneOn),
+    (2, 1, Waiting),
+    (1, 7, GoneOn),
+    (1, 1, Committed(1)),
+    (1, 1, GoneOn),
+    (2, 3, GoneOn),
+    (2, 1, BrokenOff),
+    (2, 12, GoneOn),
+    (2, 1, Committed(3)),
+    (2, 1, GoneOn),
 ];
 
 // The master commits between the look and the swap. The swap fails; the helper looks again, and its entries are looked at
 // again, after the swap in way 2 and before it in way 3.
 const OVERTAKEN: &[Turn] = &[
-    (2, 9, GoneOn, 0),
-    (0, 6, GoneOn, 0),
-    (0, 1, Committed, 1),
-    (2, 7, GoneOn, 0),
-    (2, 1, Committed, 3),
-    (2, 1, GoneOn, 0),
+    (2, 9, GoneOn),
+    (0, 6, GoneOn),
+    (0, 1, Committed(1)),
+    (2, 7, GoneOn),
+    (2, 1, Committed(3)),
+    (2, 1, GoneOn),
 ];
 
 const BOTH: &[Record] = &[FIRST_MADE, FIRST_DONE, SECOND_MADE, SECOND_DONE];

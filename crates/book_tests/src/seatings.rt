@@ -124,9 +124,9 @@ fn numbers(rt: HostRuntime) -> Result<(), Fail> {
     let mut lists = lay(rt.alloc(), &EIGHT, SHORT)?;
     let mut book: Book<Total> = open_on(&mut lists, 1, 2, 2_147_483_598)?;
     seats_all(&rt, &mut book, BEFORE)?;
-    let master = [(0, 6, GoneOn, 0), (0, 1, Committed, 2_147_483_599)];
+    let master = [(0, 6, GoneOn), (0, 1, Committed(2_147_483_599))];
     turns(&rt, &mut book, &mut lists, &master, "the master")?;
     seats_all(&rt, &mut book, AFTER)?;
-    let helper = [(1, 10, GoneOn, 0), (1, 1, Committed, 2_147_483_601)];
+    let helper = [(1, 10, GoneOn), (1, 1, Committed(2_147_483_601))];
     turns(&rt, &mut book, &mut lists, &helper, "the helper")
 }

@@ -2,7 +2,7 @@
 use body::Body;
 use book::{Book, Lists};
 use journal::Record;
-use lane::{OpenRefusal, StepRefusal, Stepped, Written};
+use lane::{Answer, OpenRefusal, StepRefusal, Written};
 use std::alloc::{AllocError, Global};
 use std::process::Abort;
 use std::test::Fail;
@@ -93,7 +93,7 @@ pub(crate) fn step_on<B: Body + Drop>(
     book: &mut Book<B>,
     shelf: &mut Shelf,
     seat: u32,
-) -> Result<Stepped, StepRefusal> {
+) -> Result<Answer, StepRefusal> {
     let mut lists = Lists {
         cells: shelf.cells.as_mut_slice(),
         marks: shelf.marks.as_mut_slice(),
@@ -101,7 +101,7 @@ pub(crate) fn step_on<B: Body + Drop>(
         writes: shelf.writes.as_mut_slice(),
         journal: shelf.journal.as_mut_slice(),
     };
-    let stepped = book.step(&mut lists, seat);
+    let answer = book.step(&mut lists, seat);
     let Lists {
         cells: _,
         marks: _,
@@ -109,7 +109,7 @@ pub(crate) fn step_on<B: Body + Drop>(
         writes: _,
         journal: _,
     } = lists;
-    stepped
+    answer
 }
 
 pub(crate) fn sits<B: Body + Drop>(

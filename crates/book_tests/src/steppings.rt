@@ -132,9 +132,9 @@ fn between(
     for _ in 0..10 {
         refuse_seats(rt, book, lists);
         refuse_lists(rt, heap, book)?;
-        turns(rt, book, lists, &[(1, 1, GoneOn, 0)], "between refusals")?;
+        turns(rt, book, lists, &[(1, 1, GoneOn)], "between refusals")?;
     }
-    turns(rt, book, lists, &[(1, 1, Committed, 1)], "between refusals")?;
+    turns(rt, book, lists, &[(1, 1, Committed(1))], "between refusals")?;
     assert_eq!(rt; step_on(book, lists, 1), Err(Idle));
     holds(
         rt,
@@ -185,12 +185,12 @@ fn misled(rt: &impl Abort, book: &mut Book<Total>, lists: &mut Shelf, cell: u32)
 // After seven steps it is to validate its entry, then to mark it, then to set its cell.
 fn mislead(rt: &impl Abort, book: &mut Book<Total>, lists: &mut Shelf) -> Result<(), Fail> {
     twenty(book)?;
-    turns(rt, book, lists, &[(1, 7, GoneOn, 0)], "misled")?;
+    turns(rt, book, lists, &[(1, 7, GoneOn)], "misled")?;
     for cell in [4, 5, 4_294_967_295] {
         misled(rt, book, lists, cell);
-        turns(rt, book, lists, &[(1, 1, GoneOn, 0)], "misled")?;
+        turns(rt, book, lists, &[(1, 1, GoneOn)], "misled")?;
     }
-    turns(rt, book, lists, &[(1, 1, Committed, 1)], "misled")?;
+    turns(rt, book, lists, &[(1, 1, Committed(1))], "misled")?;
     holds(rt, lists, &[20, 20, 30, 40], &[1, 0], DONE, "misled");
     Ok(())
 }

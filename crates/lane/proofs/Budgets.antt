@@ -109,7 +109,7 @@ module _ {B : Type 0} (m : Ghosts B) (law : Laws m) where
   module _ (σ : List ℤ) (g : Shared) (C : List (Commit B)) (k : ℕ) (s : Work B) (v : View B) (t : Seated) where
     -- The record of a step, and how many changes the transaction has recorded then.
     abbrev pub record_now : Step → Option Record
-    record_now z = record_by z.effect g.core.number (commit_record m.KIND k t z.number z.answer)
+    record_now z = record_by z.effect g.core.number (commit_record m.KIND k t z.answer)
 
     abbrev pub made_now : Step → ℕ
     made_now z = made_by z.effect true t.made
@@ -125,7 +125,7 @@ module _ {B : Type 0} (m : Ghosts B) (law : Laws m) where
 
     module _ (h : Held (length σ) s) (long : t.writes ≡ length s.writes) (keeps : t.keeps ≡ needed k (m.len s.body)) where
       -- Stays, or goes on to a phase, and makes no record.
-      on : (p q : Phase) (a : Answer) → commit_record m.KIND k t 0 a ≡ None → Made m t.writes s.body t.made q
+      on : (p q : Phase) (a : Answer) → commit_record m.KIND k t a ≡ None → Made m t.writes s.body t.made q
           → spare t.keeps t.made q ≤ spare t.keeps t.made p → (holds q ≡ true → holds p ≡ true) → Adds p (stays a q)
       on p q a e i c l = record { made = i; cost = rw e (omega arith); deed = rw e (rests (holds q) l) }
 
@@ -151,7 +151,7 @@ module _ {B : Type 0} (m : Ghosts B) (law : Laws m) where
           → Adds p (look_step g.core.number y o)
       adds_look p o y i c = cond_both (odd g.core.number) _ _ (Adds p) (λ e. to (Look o) Waiting refl i refl refl) (λ e. by y o)
         where
-          to : (q : Phase) (a : Answer) → commit_record m.KIND k t 0 a ≡ None → Made m t.writes s.body t.made q → holds q ≡ false
+          to : (q : Phase) (a : Answer) → commit_record m.KIND k t a ≡ None → Made m t.writes s.body t.made q → holds q ≡ false
               → spare t.keeps t.made q ≡ t.keeps - t.made → Adds p (stays a q)
           to q a e j f d = on p q a e j (omega arith) (λ x. absurd (false≢true (sym f ∙ x)))
 

@@ -22,7 +22,6 @@ pub record Out (B : Type 0) : Type 0 where
   pub shared : Shared
   pub seat : Option (Seat B)
   pub answer : Answer
-  pub number : ℕ
   pub told : Told
 
 -- Where a seat's transaction begins
@@ -35,7 +34,7 @@ to p s = record { phase = p; work = s }
 
 module _ {B : Type 0} (m : Ghosts B) where
   abbrev pub out_of : Shared → ℕ → Work B → Step → Out B
-  out_of g k s z = record { shared = shared_after k z.effect g; seat = seat_after m z s; answer = z.answer; number = z.number; told = z.told }
+  out_of g k s z = record { shared = shared_after k z.effect g; seat = seat_after m z s; answer = z.answer; told = z.told }
 
   abbrev pub act : Shared → ℕ → Work B → Phase → Out B
   act g k s p = out_of g k s (step_at m g k s p)
@@ -50,7 +49,7 @@ module _ {B : Type 0} (m : Ghosts B) where
   step_of w k s = let u = act w.shared k s.work s.phase in record { shared = u.shared; seats = put k u.seat w.seats }
 
   abbrev pub step_moment : World B → ℕ → Seat B → Moment B
-  step_moment w k s = let u = act w.shared k s.work s.phase in moment (stepped k u.answer u.number u.told) u.shared
+  step_moment w k s = let u = act w.shared k s.work s.phase in moment (stepped k u.answer u.told) u.shared
 
   abbrev pub seat_of : World B → ℕ → Way → B → World B
   seat_of w k y b = record { shared = w.shared; seats = put k (Some (to (first_phase k) (record { body = b; way = y; start = 0; reads = []; writes = [] }))) w.seats }

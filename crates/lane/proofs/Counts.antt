@@ -107,7 +107,7 @@ steps_more {B} k x n = by x.call
   where
     by : (c : Call B) → steps_of k (record { call = c; flag = x.flag; number = x.number } ∷ n) ≡ steps_of k (record { call = c; flag = x.flag; number = x.number } ∷ []) + steps_of k n
     by (seated j b) = omega arith
-    by (stepped j a p t) = by2 (eqb j k)
+    by (stepped j a t) = by2 (eqb j k)
       where
         by2 : (c : Bool) → cond c (1 + steps_of k n) (steps_of k n) ≡ cond c (1 + 0) 0 + steps_of k n
         by2 true = omega arith
@@ -154,11 +154,11 @@ module _ {B : Type 0} (m : Ghosts B) (o : Opening) (law : Laws m) where
     pub facts : Facts m o.cells w.shared.core w.shared.flag (commits h) k s.work (view_of k h) s.phase
     facts = subst (λ x. Mine m o.cells w.shared.core w.shared.flag (commits h) k (view_of k h) x) at (i.seats k)
 
-    same_seat : (j : ℕ) (a' : Answer) (n' : ℕ) (t' : Told) → ◌≡◌ {A = Call B} (stepped k u.answer u.number u.told) (stepped j a' n' t') → k ≡ j
-    same_seat j a' n' t' c = by u.answer u.number u.told c
+    same_seat : (j : ℕ) (a' : Answer) (t' : Told) → ◌≡◌ {A = Call B} (stepped k u.answer u.told) (stepped j a' t') → k ≡ j
+    same_seat j a' t' c = by u.answer u.told c
       where
-        by : (a : Answer) (n : ℕ) (t : Told) → ◌≡◌ {A = Call B} (stepped k a n t) (stepped j a' n' t') → k ≡ j
-        by a n t c = cc
+        by : (a : Answer) (t : Told) → ◌≡◌ {A = Call B} (stepped k a t) (stepped j a' t') → k ≡ j
+        by a t c = cc
 
     back_step : Back h w → Back (e ∷ h) (step_of m w k s)
     back_step b = back_more h w (step_of m w k s) e b start on
@@ -168,7 +168,7 @@ module _ {B : Type 0} (m : Ghosts B) (o : Opening) (law : Laws m) where
           where
             by : Moves m o.cells w.shared (commits h) k s.phase u (commits (e ∷ h)) → holds_seat (cond (eqb k j) u.seat (w.seats j)) ≡ true
             by (quiet q f) = absurd (let z : u.shared.core.number ≡ w.shared.core.number = ap (λ (x : Core). x.number) q.same in omega (arith, t.1, t.2, i.number))
-            by (takes ev od q r) = rw (eq-eqb k j (same_seat j t.0.0 t.0.1 t.0.2 t.0.3)) r
+            by (takes ev od q r) = rw (eq-eqb k j (same_seat j t.0.0 t.0.1 t.0.2)) r
             by (works q od) = absurd (omega (arith, t.1, i.number))
 
         on : (j : ℕ) → 0 < j → holds_seat (w.seats j) ≡ true → Gives m o j e h ⊎ ((holds_seat (cond (eqb k j) u.seat (w.seats j)) ≡ true) × (cond (eqb k j) (1 + 0) 0 + rank_seat (w.seats j) ≤ rank_seat (cond (eqb k j) u.seat (w.seats j))))
@@ -180,7 +180,7 @@ module _ {B : Type 0} (m : Ghosts B) (o : Opening) (law : Laws m) where
                 let hp : holds s.phase ≡ true = subst (λ z. holds_seat z ≡ true) at' hj in
                 let od : w.shared.core.number % 2 ≡ 1 = mine_odd m o.cells w.shared.core w.shared.flag (commits h) j (view_of j h) (w.seats j) hj (i.seats j) in
                 ⊎_elim
-                (λ ev. inl ((u.answer, u.number, u.told, ap {B = Call B} (λ x. stepped x u.answer u.number u.told) q), rw i.number od, ev))
+                (λ ev. inl ((u.answer, u.told, ap {B = Call B} (λ x. stepped x u.answer u.told) q), rw i.number od, ev))
                 (λ c. inr (c.0, (let z : rank_seat (w.seats j) ≡ rank s.work s.phase = ap (λ y. rank_seat y) at' in omega (arith, c.1))))
                 (goes m o.cells w.shared (commits h) k s.work (view_of k h) s.phase (omega arith) hp facts)
 
@@ -188,16 +188,16 @@ module _ {B : Type 0} (m : Ghosts B) (o : Opening) (law : Laws m) where
             by true q = mine (eqb-true k j q)
             by false q = inr (hj, omega arith)
 
-  back_idle : (h : History B) (w w' : World B) (x : Moment B) → ((j : ℕ) (a : Answer) (n : ℕ) (t : Told) → x.call ≡ stepped j a n t → ⊥) → ((k : ℕ) → steps_of k (x ∷ []) ≡ 0) → ((k : ℕ) → holds_seat (w.seats k) ≡ true → w'.seats k ≡ w.seats k) → Back h w → Back (x ∷ h) w'
-  back_idle h w w' x ns st same b = back_more h w w' x b (λ k l t. absurd (ns k t.0.0 t.0.1 t.0.2 t.0.3)) (λ k l hk. inr (subst (λ z. holds_seat z ≡ true) (sym (same k hk)) hk, (let z : rank_seat (w'.seats k) ≡ rank_seat (w.seats k) = ap (λ y. rank_seat y) (same k hk) in omega (arith, st k))))
+  back_idle : (h : History B) (w w' : World B) (x : Moment B) → ((j : ℕ) (a : Answer) (t : Told) → x.call ≡ stepped j a t → ⊥) → ((k : ℕ) → steps_of k (x ∷ []) ≡ 0) → ((k : ℕ) → holds_seat (w.seats k) ≡ true → w'.seats k ≡ w.seats k) → Back h w → Back (x ∷ h) w'
+  back_idle h w w' x ns st same b = back_more h w w' x b (λ k l t. absurd (ns k t.0.0 t.0.1 t.0.2)) (λ k l hk. inr (subst (λ z. holds_seat z ≡ true) (sym (same k hk)) hk, (let z : rank_seat (w'.seats k) ≡ rank_seat (w.seats k) = ap (λ y. rank_seat y) (same k hk) in omega (arith, st k))))
 
   pub back : {h : History B} {w : World B} → Ran m o h w → Back h w
   back (opens slots l ev) = λ k newer older x q. absurd (no_moment newer older x q)
-  back (seats h w k y b r idle fits) = back_idle h w (seat_of m w k y b) (moment m (seated k b) w.shared) (λ j a n t c. (let z : ◌≡◌ {A = ℕ} 0 1 = cc in omega arith)) (λ j. refl) (λ j hj. same j hj (eqb k j) refl) (back r)
+  back (seats h w k y b r idle fits) = back_idle h w (seat_of m w k y b) (moment m (seated k b) w.shared) (λ j a t c. (let z : ◌≡◌ {A = ℕ} 0 1 = cc in omega arith)) (λ j. refl) (λ j hj. same j hj (eqb k j) refl) (back r)
     where
       same : (j : ℕ) → holds_seat (w.seats j) ≡ true → (c : Bool) → eqb k j ≡ c → cond (eqb k j) (Some (to (first_phase k) (record { body = b; way = y; start = 0; reads = []; writes = [] }))) (w.seats j) ≡ w.seats j
       same j hj true q = absurd (false≢true (subst (λ z. holds_seat z ≡ true) idle (subst (λ z. holds_seat (w.seats z) ≡ true) (sym (eqb-true k j q)) hj)))
       same j hj false q = rw q
   back (steps h w k s r at) = back_step h w (inv m o law r) k s at (back r)
-  back (pauses h w p r) = back_idle h w (pause_of m p w) (moment m other w.shared) (λ j a n t c. (let z : ◌≡◌ {A = ℕ} 0 1 = cc in omega arith)) (λ j. refl) (λ j hj. refl) (back r)
-  back (refuses h w r) = back_idle h w w (moment m other w.shared) (λ j a n t c. (let z : ◌≡◌ {A = ℕ} 0 1 = cc in omega arith)) (λ j. refl) (λ j hj. refl) (back r)
+  back (pauses h w p r) = back_idle h w (pause_of m p w) (moment m other w.shared) (λ j a t c. (let z : ◌≡◌ {A = ℕ} 0 1 = cc in omega arith)) (λ j. refl) (λ j hj. refl) (back r)
+  back (refuses h w r) = back_idle h w w (moment m other w.shared) (λ j a t c. (let z : ◌≡◌ {A = ℕ} 0 1 = cc in omega arith)) (λ j. refl) (λ j hj. refl) (back r)

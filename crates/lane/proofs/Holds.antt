@@ -25,8 +25,8 @@ module _ {B : Type 0} (m : Ghosts B) (o : Opening) (law : Laws m) where
   sound {h} {w} r = record {
     serial = i.shared.agrees;
     settled = λ e. i.shared.free (let z = i.number in omega arith);
-    snapshot = λ newer older e k a n c v q s. (subst (OfStep (λ k a t. Hears m o.cells (base w.shared.core.number) (commits h) (view_of k older) t)) s (each_at (HeardAt m o (base w.shared.core.number) (commits h)) newer older e (subst (Each (HeardAt m o (base w.shared.core.number) (commits h))) q i.heard))).1;
-    never_broken = λ newer older e n t q s. (let z : 0 < 0 = subst (OfStep (λ k a t. Breaks m o.cells k a)) s (each_at (BrokenAt m o) newer older e (subst (Each (BrokenAt m o)) q i.broken)) in omega arith);
+    snapshot = λ newer older e k a c v q s. (subst (OfStep (λ k a t. Hears m o.cells (base w.shared.core.number) (commits h) (view_of k older) t)) s (each_at (HeardAt m o (base w.shared.core.number) (commits h)) newer older e (subst (Each (HeardAt m o (base w.shared.core.number) (commits h))) q i.heard))).1;
+    never_broken = λ newer older e t q s. (let z : 0 < 0 = subst (OfStep (λ k a t. Breaks m o.cells k a)) s (each_at (BrokenAt m o) newer older e (subst (Each (BrokenAt m o)) q i.broken)) in omega arith);
     reserved = λ newer older e q t. each_at (ReservedAt m o) newer older e (subst (Each (ReservedAt m o)) q i.reserved) t;
     gives_back = λ newer older e k q l t ng. (let z = back m o law r k newer older e q l t ng in omega (arith, z.1, few_steps h w i k (w.seats k) (i.seats k)));
     soon = λ newer older b q t e s nc. soon_few h w i (w.seats 0) b (steps_of 0 newer) (i.seats 0) (soon m o law r newer older b q t e s nc).1;

@@ -30,13 +30,13 @@ module _ {B : Type 0} where
   heard (Handed c x) v = record { told = Handed c x ∷ v.told; start = v.start; body = v.body }
   heard (Taken c x) v = record { told = Taken c x ∷ v.told; start = v.start; body = v.body }
 
-  abbrev pub grown : Answer → ℕ → View B → List (Commit B) → List (Commit B)
-  grown GoneOn n v C = C
-  grown Waiting n v C = C
-  grown Paused n v C = C
-  grown BrokenOff n v C = C
-  grown Committed n v C = with_body v.body n (amounts v.told) C
-  grown TooLong n v C = C
+  abbrev pub grown : Answer → View B → List (Commit B) → List (Commit B)
+  grown GoneOn v C = C
+  grown Waiting v C = C
+  grown Paused v C = C
+  grown BrokenOff v C = C
+  grown (Committed n) v C = with_body v.body n (amounts v.told) C
+  grown TooLong v C = C
 
 -- Whether a phase holds the lane
 abbrev pub holds : Phase → Bool
@@ -197,7 +197,7 @@ module _ {B : Type 0} (m : Ghosts B) (σ : List ℤ) where
   Breaks k Waiting = Unit {0}
   Breaks k Paused = Unit {0}
   Breaks k BrokenOff = 0 < k
-  Breaks k Committed = Unit {0}
+  Breaks k (Committed n) = Unit {0}
   Breaks k TooLong = Unit {0}
 
   -- All that is to be shown of one step

@@ -6,14 +6,14 @@ use Rattle.std.proofs.lemmas.Bool.{eq-eqb, lt-ltb, le-ltb, leb-true, or_parts, n
 use Rattle.body.specs.declared.body.Body.{Ghosts}
 use Rattle.body.specs.Meaning.{Within}
 use Rattle.money.specs.Amounts.{within_limit}
+use Rattle.lane.specs.declared.answer.Answer.{Answer}
 use Rattle.lane.specs.declared.phase.Phase.{Phase}
 use Rattle.lane.specs.declared.phase.Phase.TheVariants.{Reserve, MasterLook, Take, MasterRun, Put, Begin, Run, Check, Wait, Look, Prevalidate, Swap, Validate, Mark, Cell, Release, LetGo, Quit, Leave}
 use Rattle.lane.specs.declared.refusal.StepRefusal.{StepRefusal}
 use Rattle.lane.specs.declared.refusal.StepRefusal.TheVariants.{Lists}
 use Rattle.lane.specs.declared.seated.Seated.{Seated}
-use Rattle.lane.specs.declared.stepped.Stepped.{Stepped}
 use Rattle.lane.specs.declared.written.Written.{Written}
-use Rattle.lane.specs.Calls.{After, some_beyond, entry_of, there, same_sizes, record_of, can_step, answered, step_now, step_did, step_reply_by, step_call}
+use Rattle.lane.specs.Calls.{After, some_beyond, entry_of, there, same_sizes, record_of, can_step, step_now, step_did, step_reply_by, step_call}
 use Rattle.lane.specs.History.{History}
 use Rattle.lane.specs.Journals.{recorded, Orderly}
 use Rattle.lane.specs.Law.{Opening}
@@ -129,8 +129,8 @@ module _ {B : Type 0} (m : Ghosts B) (law : Laws m) where
     taken k None e y f q = let z : ◌≡◌ {A = ℕ} 0 1 = cc in omega arith
     taken k (Some s) e None f q = let z : ◌≡◌ {A = ℕ} 0 1 = cc in omega arith
     taken k (Some s) e (Some b) f q =
-        let a : Stepped = answered m (step_now m w k s b) in
-        let p : ◌≡◌ {A = Result Stepped StepRefusal} (Ok a) (Err Lists) = subst (λ c. cond c (Ok a) (Err Lists) ≡ Err Lists) (can k s b e f) q in
+        let a : Answer = (step_now m w k s b).answer in
+        let p : ◌≡◌ {A = Result Answer StepRefusal} (Ok a) (Err Lists) = subst (λ c. cond c (Ok a) (Err Lists) ≡ Err Lists) (can k s b e f) q in
         let z : ◌≡◌ {A = ℕ} 0 1 = cc in
         omega arith
 
@@ -145,7 +145,7 @@ module _ {B : Type 0} (m : Ghosts B) (law : Laws m) where
   -- EVERY RUN IS ORDERLY
   pub orderly : {o : Opening} {h : History B} {w : World B} → Ran m o h w → Orderly m w
   orderly {o} {h} {w} r = record {
-    never_refused = λ k. cond_both (ltb w.helpers k) _ _ (λ (x : Result Stepped StepRefusal). x ≡ Err Lists → ⊥)
+    never_refused = λ k. cond_both (ltb w.helpers k) _ _ (λ (x : Result Answer StepRefusal). x ≡ Err Lists → ⊥)
         (λ e q. (let z : ◌≡◌ {A = ℕ} 0 1 = cc in omega arith))
         (λ e. taken r k (get_or w.seats k None) refl (get_or w.bodies k None) refl);
     within = (cleaned r).cells;

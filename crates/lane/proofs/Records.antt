@@ -180,7 +180,7 @@ module _ {B : Type 0} (m : Ghosts B) where
     made_did : made_by z.effect (has_room m w) s.made ≡ made'
     made_did = by z.effect room_for
       where
-        by : (e : Effect) → ((y : Record) → record_by e number (commit_record m.KIND k s z.number z.answer) ≡ Some y → has_room m w ≡ true)
+        by : (e : Effect) → ((y : Record) → record_by e number (commit_record m.KIND k s z.answer) ≡ Some y → has_room m w ≡ true)
             → made_by e (has_room m w) s.made ≡ made_by e true s.made
         by Unchanged f = refl
         by FlagSet f = refl

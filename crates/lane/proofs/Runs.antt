@@ -40,26 +40,26 @@ module _ {B : Type 0} where
   -- P of a step, and nothing of other calls
   abbrev pub OfStep : (ℕ → Answer → Told → Type 0) → Call B → Type 0
   OfStep P (seated j b) = Unit {0}
-  OfStep P (stepped k a n t) = P k a t
+  OfStep P (stepped k a t) = P k a t
   OfStep P other = Unit {0}
 
   -- How a step changes the views
-  view_step : (k : ℕ) (a : Answer) (n : ℕ) (t : Told) (fl : Bool) (w : ℕ) (h : History B) → view_of k (record { call = stepped k a n t; flag = fl; number = w } ∷ h) ≡ heard t (view_of k h)
-  view_step k a n Nothing fl w h = rw (eq-eqb k k refl)
-  view_step k a n (Restarted s) fl w h = rw (eq-eqb k k refl)
-  view_step k a n (Handed c x) fl w h = rw (eq-eqb k k refl)
-  view_step k a n (Taken c x) fl w h = rw (eq-eqb k k refl)
+  view_step : (k : ℕ) (a : Answer) (t : Told) (fl : Bool) (w : ℕ) (h : History B) → view_of k (record { call = stepped k a t; flag = fl; number = w } ∷ h) ≡ heard t (view_of k h)
+  view_step k a Nothing fl w h = rw (eq-eqb k k refl)
+  view_step k a (Restarted s) fl w h = rw (eq-eqb k k refl)
+  view_step k a (Handed c x) fl w h = rw (eq-eqb k k refl)
+  view_step k a (Taken c x) fl w h = rw (eq-eqb k k refl)
 
-  view_other : (j k : ℕ) (a : Answer) (n : ℕ) (t : Told) (fl : Bool) (w : ℕ) (h : History B) → eqb k j ≡ false → view_of j (record { call = stepped k a n t; flag = fl; number = w } ∷ h) ≡ view_of j h
-  view_other j k a n t fl w h e = rw e
+  view_other : (j k : ℕ) (a : Answer) (t : Told) (fl : Bool) (w : ℕ) (h : History B) → eqb k j ≡ false → view_of j (record { call = stepped k a t; flag = fl; number = w } ∷ h) ≡ view_of j h
+  view_other j k a t fl w h e = rw e
 
-  commits_step : (k : ℕ) (a : Answer) (n : ℕ) (t : Told) (fl : Bool) (w : ℕ) (h : History B) → commits (record { call = stepped k a n t; flag = fl; number = w } ∷ h) ≡ grown a n (view_of k (record { call = stepped k a n t; flag = fl; number = w } ∷ h)) (commits h)
-  commits_step k GoneOn n t fl w h = refl
-  commits_step k Waiting n t fl w h = refl
-  commits_step k Paused n t fl w h = refl
-  commits_step k BrokenOff n t fl w h = refl
-  commits_step k Committed n t fl w h = refl
-  commits_step k TooLong n t fl w h = refl
+  commits_step : (k : ℕ) (a : Answer) (t : Told) (fl : Bool) (w : ℕ) (h : History B) → commits (record { call = stepped k a t; flag = fl; number = w } ∷ h) ≡ grown a (view_of k (record { call = stepped k a t; flag = fl; number = w } ∷ h)) (commits h)
+  commits_step k GoneOn t fl w h = refl
+  commits_step k Waiting t fl w h = refl
+  commits_step k Paused t fl w h = refl
+  commits_step k BrokenOff t fl w h = refl
+  commits_step k (Committed n) t fl w h = refl
+  commits_step k TooLong t fl w h = refl
 
 module _ {B : Type 0} (m : Ghosts B) (o : Opening) where
   -- What was handed by the moment e
@@ -93,7 +93,7 @@ module _ {B : Type 0} (m : Ghosts B) (o : Opening) where
     where
       by : (c : Call B) → OfStep (λ k a t. Hears m o.cells x C (view_of k h) t) c → OfStep (λ k a t. Hears m o.cells x' C' (view_of k h) t) c
       by (seated j b) a = tt
-      by (stepped k a' n t) a = hears_later x x' C C' (view_of k h) t l f a
+      by (stepped k a' t) a = hears_later x x' C C' (view_of k h) t l f a
       by other a = tt
 
   module _ (law : Laws m) where
@@ -109,8 +109,8 @@ module _ {B : Type 0} (m : Ghosts B) (o : Opening) where
       done =
           let f : Facts m o.cells w.shared.core w.shared.flag (commits h) k s.work (view_of k h) s.phase = subst (λ x. Mine m o.cells w.shared.core w.shared.flag (commits h) k (view_of k h) x) at (i.seats k) in
           let a = good m o.cells law w.shared (commits h) i.shared k s.work (view_of k h) s.phase f in
-          let b = subst (λ z. Good m o.cells w.shared (commits h) k s.phase (view_of k h) u z (grown u.answer u.number z (commits h))) (sym (view_step k u.answer u.number u.told u.shared.flag u.shared.core.number h)) a in
-          subst (λ z. Good m o.cells w.shared (commits h) k s.phase (view_of k h) u (view_of k (e ∷ h)) z) (sym (commits_step k u.answer u.number u.told u.shared.flag u.shared.core.number h)) b
+          let b = subst (λ z. Good m o.cells w.shared (commits h) k s.phase (view_of k h) u z (grown u.answer z (commits h))) (sym (view_step k u.answer u.told u.shared.flag u.shared.core.number h)) a in
+          subst (λ z. Good m o.cells w.shared (commits h) k s.phase (view_of k h) u (view_of k (e ∷ h)) z) (sym (commits_step k u.answer u.told u.shared.flag u.shared.core.number h)) b
 
       pub held : holds s.phase ≡ true → holds_seat (w.seats k) ≡ true
       held q = rw at q
@@ -156,7 +156,7 @@ module _ {B : Type 0} (m : Ghosts B) (o : Opening) where
         where
           by : (b : Bool) → eqb k j ≡ b → Mine m o.cells u.shared.core u.shared.flag (commits (e ∷ h)) j (view_of j (e ∷ h)) (cond b u.seat (w.seats j))
           by true q = subst (λ x. Mine m o.cells u.shared.core u.shared.flag (commits (e ∷ h)) x (view_of x (e ∷ h)) u.seat) (eqb-true k j q) done.mine
-          by false q = subst (λ z. Mine m o.cells u.shared.core u.shared.flag (commits (e ∷ h)) j z (w.seats j)) (sym (view_other j k u.answer u.number u.told u.shared.flag u.shared.core.number h q)) (others j (eqb-false k j q))
+          by false q = subst (λ z. Mine m o.cells u.shared.core u.shared.flag (commits (e ∷ h)) j z (w.seats j)) (sym (view_other j k u.answer u.told u.shared.flag u.shared.core.number h q)) (others j (eqb-false k j q))
 
       one_step : (j l : ℕ) → holds_seat (cond (eqb k j) u.seat (w.seats j)) ≡ true → holds_seat (cond (eqb k l) u.seat (w.seats l)) ≡ true → j ≡ l
       one_step j l = by (eqb k j) refl (eqb k l) refl
@@ -176,19 +176,19 @@ module _ {B : Type 0} (m : Ghosts B) (o : Opening) where
           takes_by : (j : ℕ) → Takes m o j e h → Moves m o.cells w.shared (commits h) k s.phase u (commits (e ∷ h)) → j ≡ 0
           takes_by j q (quiet y f) = absurd (let z : u.shared.core.number ≡ w.shared.core.number = ap (λ (x : Core). x.number) y.same in omega (arith, q.1, q.2, i.number))
           takes_by j q (takes ev od y r) =
-              let c = q.0.3 in
-              let z : k ≡ j = same_seat u.answer u.number u.told q.0.0 q.0.1 q.0.2 c in
+              let c = q.0.2 in
+              let z : k ≡ j = same_seat u.answer u.told q.0.0 q.0.1 c in
               ⊎_elim (λ b. absurd (both_ways w.shared.flag b t')) (λ b. sym z ∙ b) y
             where
-              same_seat : {j : ℕ} (a : Answer) (n : ℕ) (r : Told) (a' : Answer) (n' : ℕ) (r' : Told) → ◌≡◌ {A = Call B} (stepped k a n r) (stepped j a' n' r') → k ≡ j
-              same_seat a n r a' n' r' c = cc
+              same_seat : {j : ℕ} (a : Answer) (r : Told) (a' : Answer) (r' : Told) → ◌≡◌ {A = Call B} (stepped k a r) (stepped j a' r') → k ≡ j
+              same_seat a r a' r' c = cc
           takes_by j q (works y od) = absurd (omega (arith, q.1, q.2, i.number))
 
           clears : u.shared.flag ≡ false → Takes m o 0 e h
           clears c =
               let z = done.clears t' c in
               let y : k ≡ 0 = ⊎_elim (λ b. b) (λ b. absurd (both_ways u.shared.flag c (b ∙ t'))) done.flags in
-              ((u.answer, u.number, u.told, ap {B = Call B} (λ x. stepped x u.answer u.number u.told) y), rw i.number z.0, z.1)
+              ((u.answer, u.told, ap {B = Call B} (λ x. stepped x u.answer u.told) y), rw i.number z.0, z.1)
 
       pub inv_step : Inv (e ∷ h) (step_of m w k s)
       inv_step = record {
@@ -239,11 +239,11 @@ module _ {B : Type 0} (m : Ghosts B) (o : Opening) where
         flag = refl;
         heard = (tt, i.heard);
         broken = (tt, i.broken);
-        reserved = (λ t. (λ j q. absurd (clash j q.0.0 q.0.1 q.0.2 q.0.3), λ c. absurd (both_ways w.shared.flag c (sym i.flag ∙ t))), i.reserved);
+        reserved = (λ t. (λ j q. absurd (clash j q.0.0 q.0.1 q.0.2), λ c. absurd (both_ways w.shared.flag c (sym i.flag ∙ t))), i.reserved);
       }
         where
-          clash : (j : ℕ) (a : Answer) (n : ℕ) (t : Told) → ◌≡◌ {A = Call B} (seated k b) (stepped j a n t) → ⊥
-          clash j a n t c = let z : ◌≡◌ {A = ℕ} 0 1 = cc in omega arith
+          clash : (j : ℕ) (a : Answer) (t : Told) → ◌≡◌ {A = Call B} (seated k b) (stepped j a t) → ⊥
+          clash j a t c = let z : ◌≡◌ {A = ℕ} 0 1 = cc in omega arith
 
           seats_new : (j : ℕ) (c : Bool) → eqb k j ≡ c → Mine m o.cells w.shared.core w.shared.flag (commits h) j (view_of j (d ∷ h)) (cond c (Some new) (w.seats j))
           seats_new j true q = subst (λ x. Mine m o.cells w.shared.core w.shared.flag (commits h) x (view_of x (d ∷ h)) (Some new)) (eqb-true k j q) mine_new
@@ -264,11 +264,11 @@ module _ {B : Type 0} (m : Ghosts B) (o : Opening) where
       flag = refl;
       heard = (tt, i.heard);
       broken = (tt, i.broken);
-      reserved = (λ t. (λ j q. absurd (clash j q.0.0 q.0.1 q.0.2 q.0.3), λ c. absurd (both_ways w.shared.flag c (sym i.flag ∙ t))), i.reserved);
+      reserved = (λ t. (λ j q. absurd (clash j q.0.0 q.0.1 q.0.2), λ c. absurd (both_ways w.shared.flag c (sym i.flag ∙ t))), i.reserved);
     }
       where
-        clash : (j : ℕ) (a : Answer) (n : ℕ) (t : Told) → ◌≡◌ {A = Call B} other (stepped j a n t) → ⊥
-        clash j a n t c = let z : ◌≡◌ {A = ℕ} 0 1 = cc in omega arith
+        clash : (j : ℕ) (a : Answer) (t : Told) → ◌≡◌ {A = Call B} other (stepped j a t) → ⊥
+        clash j a t c = let z : ◌≡◌ {A = ℕ} 0 1 = cc in omega arith
 
     marks_none : (n i : ℕ) → ◌≡◌ {A = ℕ} (get_or (replicate n 0) i 0) 0
     marks_none zero i = refl

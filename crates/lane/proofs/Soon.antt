@@ -108,7 +108,7 @@ module _ {B : Type 0} (m : Ghosts B) where
 
     -- A step of the master brings it nearer, or is the commit
     abbrev Nears : B → ℕ → Step → Type 0
-    Nears b r z = (z.answer ≡ Committed) ⊎ Progs (out_of m g k s z).shared b (1 + r) (out_of m g k s z).seat
+    Nears b r z = ((n : ℕ) × (z.answer ≡ Committed n)) ⊎ Progs (out_of m g k s z).shared b (1 + r) (out_of m g k s z).seat
 
     pub nears : (p : Phase) (b : B) (r : ℕ) → v.body ≡ Some b → F p → Prog g s b r p → Nears b r (step_at m g k s p)
     nears Reserve b r e f q = absurd q
@@ -128,7 +128,7 @@ module _ {B : Type 0} (m : Ghosts B) where
             let l : m.left (m.told s.body x) < m.left s.body = subst (ReadTold m.left s.body (m.told s.body x)) h (law.reads s.body x) in
             inr (omega arith)
         by (Write c x) h = inr (omega arith)
-        by End h = inl refl
+        by End h = inl (g.core.number, refl)
     nears (Put c x) b r e f q =
         let l : m.left (m.taken s.body) < m.left s.body = subst (WriteTaken m.left s.body (m.taken s.body)) f.1 (law.writes s.body) in
         inr (omega arith)
@@ -245,7 +245,7 @@ module _ {B : Type 0} (m : Ghosts B) (o : Opening) (law : Laws m) where
   up (refuses h w r) t = up r t
 
   abbrev pub NoCommit : History B → Type 0
-  NoCommit newer = (new old : History B) (f : Moment B) (n : ℕ) (t : Told) → newer ≡ new ++ (f ∷ old) → f.call ≡ stepped 0 Committed n t → ⊥
+  NoCommit newer = (new old : History B) (f : Moment B) (n : ℕ) (t : Told) → newer ≡ new ++ (f ∷ old) → f.call ≡ stepped 0 (Committed n) t → ⊥
 
   abbrev pub Soon : History B → World B → Type 0
   Soon h w = (newer older : History B) (b : B) → h ≡ newer ++ older → flag_after older ≡ true → number_after o.number older % 2 ≡ 0 → body_of 0 older ≡ Some b → NoCommit newer → (body_of 0 h ≡ Some b) × Progs m w.shared b (steps_of 0 newer) (w.seats 0)
@@ -257,7 +257,7 @@ module _ {B : Type 0} (m : Ghosts B) (o : Opening) (law : Laws m) where
       (ap (λ z. body_of 0 z) q ∙ s, progs_start m w.shared b (w.seats 0) (p t') t' (let a = i.number in omega arith))
 
   soon_more : (h : History B) (w w' : World B) (x : Moment B) → Inv m o (x ∷ h) w' → Up w' → Soon h w
-      → ((b : B) (r : ℕ) → ((n : ℕ) (t : Told) → x.call ≡ stepped 0 Committed n t → ⊥) → body_of 0 h ≡ Some b → Progs m w.shared b r (w.seats 0) → (body_of 0 (x ∷ h) ≡ Some b) × Progs m w'.shared b (steps_of 0 (x ∷ []) + r) (w'.seats 0))
+      → ((b : B) (r : ℕ) → ((n : ℕ) (t : Told) → x.call ≡ stepped 0 (Committed n) t → ⊥) → body_of 0 h ≡ Some b → Progs m w.shared b r (w.seats 0) → (body_of 0 (x ∷ h) ≡ Some b) × Progs m w'.shared b (steps_of 0 (x ∷ []) + r) (w'.seats 0))
       → Soon (x ∷ h) w'
   soon_more h w w' x i p so on [] older b q t e s nc = soon_here (x ∷ h) w' i p older b q t e s
   soon_more h w w' x i p so on (y ∷ newer) older b q t e s nc =
@@ -287,18 +287,18 @@ module _ {B : Type 0} (m : Ghosts B) (o : Opening) (law : Laws m) where
       i : Inv m o h w
       i = inv m o law r
 
-      on : (c : B) (n : ℕ) → ((n : ℕ) (t : Told) → (step_moment m w k s).call ≡ stepped 0 Committed n t → ⊥) → body_of 0 h ≡ Some c → Progs m w.shared c n (w.seats 0) → (d : Bool) → eqb k 0 ≡ d → Progs m (step_of m w k s).shared c (cond (eqb k 0) (1 + 0) 0 + n) (cond (eqb k 0) (act m w.shared k s.work s.phase).seat (w.seats 0))
+      on : (c : B) (n : ℕ) → ((n : ℕ) (t : Told) → (step_moment m w k s).call ≡ stepped 0 (Committed n) t → ⊥) → body_of 0 h ≡ Some c → Progs m w.shared c n (w.seats 0) → (d : Bool) → eqb k 0 ≡ d → Progs m (step_of m w k s).shared c (cond (eqb k 0) (1 + 0) 0 + n) (cond (eqb k 0) (act m w.shared k s.work s.phase).seat (w.seats 0))
       on c n nc bo q true e =
           let z : k ≡ 0 = eqb-true k 0 e in
           let at' : w.seats 0 ≡ Some s = subst (λ z. w.seats z ≡ Some s) z at in
           let bo' : body_of k h ≡ Some c = subst (λ z. body_of z h ≡ Some c) (sym z) bo in
           ⊎_elim
-          (λ a. absurd (nc (act m w.shared k s.work s.phase).number (act m w.shared k s.work s.phase).told (committed z a)))
+          (λ a. absurd (nc a.0 (act m w.shared k s.work s.phase).told (committed z a.0 a.1)))
           (λ a. rw e a)
           (nears m o.cells law w.shared (commits h) k s.work (view_of k h) s.phase c n bo' (facts m o law h w i k s at) (subst (λ z. Progs m w.shared c n z) at' q))
         where
-          committed : k ≡ 0 → (act m w.shared k s.work s.phase).answer ≡ Committed → (step_moment m w k s).call ≡ stepped 0 Committed (act m w.shared k s.work s.phase).number (act m w.shared k s.work s.phase).told
-          committed z a = ap {B = Call B} (λ x. stepped x (act m w.shared k s.work s.phase).answer (act m w.shared k s.work s.phase).number (act m w.shared k s.work s.phase).told) z ∙ ap {B = Call B} (λ x. stepped 0 x (act m w.shared k s.work s.phase).number (act m w.shared k s.work s.phase).told) a
+          committed : k ≡ 0 → (p : ℕ) → (act m w.shared k s.work s.phase).answer ≡ Committed p → (step_moment m w k s).call ≡ stepped 0 (Committed p) (act m w.shared k s.work s.phase).told
+          committed z p a = ap {B = Call B} (λ x. stepped x (act m w.shared k s.work s.phase).answer (act m w.shared k s.work s.phase).told) z ∙ ap {B = Call B} (λ x. stepped 0 x (act m w.shared k s.work s.phase).told) a
       on c n nc bo q false e = rw (e, zero-add) (progs_others m w.shared (act m w.shared k s.work s.phase).shared c n (w.seats 0) (λ t ev. (kept_even m o law h w i k s at (eqb-false k 0 e) t ev, kept_flag m o law h w i k s at (eqb-false k 0 e) ∙ t)) q)
   soon (pauses h w p r) = soon_more h w (pause_of m p w) (moment m other w.shared) (inv m o law (pauses h w p r)) (up (pauses h w p r)) (soon r) (λ c n _ bo q. (bo, rw zero-add (progs_others m w.shared (pause_of m p w).shared c n (w.seats 0) (λ t ev. (ev, t)) q)))
   soon (refuses h w r) = soon_more h w w (moment m other w.shared) (inv m o law (refuses h w r)) (up (refuses h w r)) (soon r) (λ c n _ bo q. (bo, rw zero-add q))

@@ -74,11 +74,11 @@ module _ {B : Type 0} (m : Ghosts B) (σ : List ℤ) (law : Laws m) where
 
   module _ (g : Shared) (C : List (Commit B)) (sh : Sh m σ g.core C) (k : ℕ) (s : Work B) (v : View B) where
     abbrev Fine : Phase → Step → Type 0
-    Fine p z = Good m σ g C k p v (out_of m g k s z) (heard z.told v) (grown z.answer z.number (heard z.told v) C)
+    Fine p z = Good m σ g C k p v (out_of m g k s z) (heard z.told v) (grown z.answer (heard z.told v) C)
 
     -- Nothing that is shared changes, but perhaps the queue
-    calm : (p : Phase) (q : List ℕ) (x : Option (Seat B)) (a : Answer) (n : ℕ) (t : Told) (v' : View B) → (holds_seat x ≡ true → holds p ≡ true) → Mine m σ g.core g.flag C k v' x → Hears m σ (base g.core.number) C v t → Breaks m σ k a → Good m σ g C k p v (record { shared = with_queue q g; seat = x; answer = a; number = n; told = t }) v' C
-    calm p q x a n t v' h i e b = record {
+    calm : (p : Phase) (q : List ℕ) (x : Option (Seat B)) (a : Answer) (t : Told) (v' : View B) → (holds_seat x ≡ true → holds p ≡ true) → Mine m σ g.core g.flag C k v' x → Hears m σ (base g.core.number) C v t → Breaks m σ k a → Good m σ g C k p v (record { shared = with_queue q g; seat = x; answer = a; told = t }) v' C
+    calm p q x a t v' h i e b = record {
       shared = sh;
       mine = i;
       later = later_quiet m σ g.core g.core C C (quiet_refl m σ g.core C);
@@ -90,23 +90,23 @@ module _ {B : Type 0} (m : Ghosts B) (σ : List ℤ) (law : Laws m) where
     }
 
     on : (p p' : Phase) → (holds p' ≡ true → holds p ≡ true) → Facts m σ g.core g.flag C k s v p' → Fine p (goes p')
-    on p p' h i = calm p g.queue (Some (to p' s)) GoneOn 0 Nothing v h i tt tt
+    on p p' h i = calm p g.queue (Some (to p' s)) GoneOn Nothing v h i tt tt
 
     waiting : (p p' : Phase) → (holds p' ≡ true → holds p ≡ true) → Facts m σ g.core g.flag C k s v p' → Fine p (stays Waiting p')
-    waiting p p' h i = calm p g.queue (Some (to p' s)) Waiting 0 Nothing v h i tt tt
+    waiting p p' h i = calm p g.queue (Some (to p' s)) Waiting Nothing v h i tt tt
 
     paused : (p p' : Phase) → (holds p' ≡ true → holds p ≡ true) → Facts m σ g.core g.flag C k s v p' → Fine p (stays Paused p')
-    paused p p' h i = calm p g.queue (Some (to p' s)) Paused 0 Nothing v h i tt tt
+    paused p p' h i = calm p g.queue (Some (to p' s)) Paused Nothing v h i tt tt
 
-    broken : (p : Phase) (q : List ℕ) → 0 < k → Waits m σ s v.body → Good m σ g C k p v (record { shared = with_queue q g; seat = Some (to Begin s); answer = BrokenOff; number = 0; told = Nothing }) v C
-    broken p q h w = calm p q (Some (to Begin s)) BrokenOff 0 Nothing v (λ e. absurd (false≢true e)) (h, w) tt h
+    broken : (p : Phase) (q : List ℕ) → 0 < k → Waits m σ s v.body → Good m σ g C k p v (record { shared = with_queue q g; seat = Some (to Begin s); answer = BrokenOff; told = Nothing }) v C
+    broken p q h w = calm p q (Some (to Begin s)) BrokenOff Nothing v (λ e. absurd (false≢true e)) (h, w) tt h
 
     long : (p : Phase) → Fine p too_long
-    long p = calm p g.queue None TooLong 0 Nothing v (λ e. absurd (false≢true e)) tt tt tt
+    long p = calm p g.queue None TooLong Nothing v (λ e. absurd (false≢true e)) tt tt tt
 
     -- What is shared changes, and the flag does not
-    busy : (p : Phase) (x : Core) (y : Option (Seat B)) (a : Answer) (n : ℕ) (t : Told) (v' : View B) (C' : List (Commit B)) → Sh m σ x C' → Later m σ g.core C x C' → Mine m σ x g.flag C' k v' y → Moves m σ g C k p (record { shared = with_core x g; seat = y; answer = a; number = n; told = t }) C' → Hears m σ (base g.core.number) C v t → Breaks m σ k a → Good m σ g C k p v (record { shared = with_core x g; seat = y; answer = a; number = n; told = t }) v' C'
-    busy p x y a n t v' C' sh' l i w e b = record {
+    busy : (p : Phase) (x : Core) (y : Option (Seat B)) (a : Answer) (t : Told) (v' : View B) (C' : List (Commit B)) → Sh m σ x C' → Later m σ g.core C x C' → Mine m σ x g.flag C' k v' y → Moves m σ g C k p (record { shared = with_core x g; seat = y; answer = a; told = t }) C' → Hears m σ (base g.core.number) C v t → Breaks m σ k a → Good m σ g C k p v (record { shared = with_core x g; seat = y; answer = a; told = t }) v' C'
+    busy p x y a t v' C' sh' l i w e b = record {
       shared = sh';
       mine = i;
       later = l;
@@ -165,30 +165,30 @@ module _ {B : Type 0} (m : Ghosts B) (σ : List ℤ) (law : Laws m) where
       good_master (Read c) e =
           let q = handed_master c e in
           let v' = heard (Handed c (get_or g.core.cells c (pos 0))) v in
-          calm MasterRun g.queue _ GoneOn 0 (Handed c (get_or g.core.cells c (pos 0))) v' (λ h. h)
+          calm MasterRun g.queue _ GoneOn (Handed c (get_or g.core.cells c (pos 0))) v' (λ h. h)
           (record { master = M.master; doing = record { who = M.doing.who; seated = M.doing.seated; valid = read M.doing.valid e q; fits = M.doing.fits }; now = M.now; cells = M.cells; odd = M.odd })
           (omega (arith, M.now, M.odd), subst (λ z. get_or g.core.cells c (pos 0) ≡ own_or c (get_or z c (pos 0)) v.told) (sym master_state) q)
           tt
       good_master (Write c x) e =
-          busy MasterRun (mark_set c g.core) (Some (to (Put c x) s)) GoneOn 0 Nothing v C (sh_mark m σ g.core C sh c M.odd) (later_mark m σ g.core C sh c M.odd) (M, e, mark_set_here g.core c sh.some) (works refl M.odd) tt tt
+          busy MasterRun (mark_set c g.core) (Some (to (Put c x) s)) GoneOn Nothing v C (sh_mark m σ g.core C sh c M.odd) (later_mark m σ g.core C sh c M.odd) (M, e, mark_set_here g.core c sh.some) (works refl M.odd) tt tt
       good_master End e =
           let a : alone m M.doing.who (full m σ C) ≡ record { handed = amounts v.told; cells = g.core.cells } = replay m law M.doing.valid (omega (arith, length_full m σ C, M.doing.fits)) e ∙ ap {B = Outcome} (λ z. record { handed = amounts v.told; cells = z }) (sym M.cells) in
           subst (λ z. Good m σ g C k MasterRun v (out_of m g k s (master_run_step g.core.number g.core.cells End)) v (with_body z g.core.number (amounts v.told) C)) (sym M.doing.seated)
-          (busy MasterRun (numbered (g.core.number + 1) g.core) None Committed g.core.number Nothing v (record { number = g.core.number; body = M.doing.who; handed = amounts v.told } ∷ C)
+          (busy MasterRun (numbered (g.core.number + 1) g.core) None (Committed g.core.number) Nothing v (record { number = g.core.number; body = M.doing.who; handed = amounts v.told } ∷ C)
           (sh_commit m σ g.core C sh M.doing.who (amounts v.told) M.odd a)
           (later_commit m σ g.core C sh M.doing.who (amounts v.told) M.odd) tt (works refl M.odd) tt tt)
 
     good_mput : (c : ℕ) (x : ℤ) → Facts m σ g.core g.flag C k s v (Put c x) → Fine (Put c x) (step_at m g k s (Put c x))
     good_mput c x f =
         let M = f.0 in
-        busy (Put c x) (cell_set c x g.core) _ GoneOn 0 (Taken c x) (heard (Taken c x) v) C (sh_cell m σ g.core C sh c x M.odd f.2) (later_cell m σ g.core C sh c x)
+        busy (Put c x) (cell_set c x g.core) _ GoneOn (Taken c x) (heard (Taken c x) v) C (sh_cell m σ g.core C sh c x M.odd f.2) (later_cell m σ g.core C sh c x)
         (record { master = M.master; doing = record { who = M.doing.who; seated = M.doing.seated; valid = wrote M.doing.valid f.1; fits = M.doing.fits }; now = M.now; cells = ap (λ z. set z c x) M.cells; odd = M.odd })
         (works refl M.odd) tt tt
 
     -- A helper ---------------------------------------------------------------------
 
     good_begin : Facts m σ g.core g.flag C k s v Begin → Fine Begin (step_at m g k s Begin)
-    good_begin f = cond_both g.paused _ _ (Fine Begin) (λ e. paused Begin Begin (λ h. h) f) (λ e. calm Begin g.queue _ GoneOn 0 (Restarted (base g.core.number)) (heard (Restarted (base g.core.number)) v) (λ h. absurd (false≢true h)) (record {
+    good_begin f = cond_both g.paused _ _ (Fine Begin) (λ e. paused Begin Begin (λ h. h) f) (λ e. calm Begin g.queue _ GoneOn (Restarted (base g.core.number)) (heard (Restarted (base g.core.number)) v) (λ h. absurd (false≢true h)) (record {
       helper = f.0;
       doing = record { who = f.1.who; seated = f.1.seated; valid = subst (λ b. Valid m (state m σ (base g.core.number) C) f.1.who [] b) (sym f.1.same) fresh; fits = f.1.fits };
       begun = record { is = refl; early = omega arith };
@@ -228,7 +228,7 @@ module _ {B : Type 0} (m : Ghosts B) (σ : List ℤ) (law : Laws m) where
           own : has c s.writes ≡ true → Fine Run (hands c (logged c (pos 0) s.writes) Same Run)
           own h =
               let q : logged c (pos 0) s.writes ≡ own_or c (get_or (state m σ v.start C) c (pos 0)) v.told = logged_default c (pos 0) (get_or (state m σ v.start C) c (pos 0)) s.writes h ∙ ap (logged c (get_or (state m σ v.start C) c (pos 0))) r.logs.written ∙ logged_log c (get_or (state m σ v.start C) c (pos 0)) v.told in
-              calm Run g.queue _ GoneOn 0 (Handed c (logged c (pos 0) s.writes)) (heard (Handed c (logged c (pos 0) s.writes)) v) (λ z. absurd (false≢true z))
+              calm Run g.queue _ GoneOn (Handed c (logged c (pos 0) s.writes)) (heard (Handed c (logged c (pos 0) s.writes)) v) (λ z. absurd (false≢true z))
               (record { helper = r.helper; doing = record { who = r.doing.who; seated = r.doing.seated; valid = read r.doing.valid e q; fits = r.doing.fits }; begun = record { is = r.begun.is; early = r.begun.early }; logs = record { written = r.logs.written; covers = (λ z. absurd (both_ways (has c (log v.told)) z (subst (λ W. has c W ≡ true) r.logs.written h)), r.logs.covers); few_reads = r.logs.few_reads; few_writes = r.logs.few_writes } })
               (r.begun.early, q) tt
 
@@ -237,7 +237,7 @@ module _ {B : Type 0} (m : Ghosts B) (σ : List ℤ) (law : Laws m) where
 
       good_write : (c : ℕ) (x : ℤ) → m.asks s.body ≡ Write c x → Fine Run (run_step g s (Write c x))
       good_write c x e = cond_both (stale g s c) _ _ (Fine Run) (λ h. broken Run g.queue r.helper (waits_from r.doing)) (λ h. cond_both (not (has c s.writes) && leb 32 (length s.writes)) _ _ (Fine Run) (λ i. long Run) (λ i.
-          calm Run g.queue _ GoneOn 0 (Taken c x) (heard (Taken c x) v) (λ z. absurd (false≢true z))
+          calm Run g.queue _ GoneOn (Taken c x) (heard (Taken c x) v) (λ z. absurd (false≢true z))
           (record { helper = r.helper; doing = record { who = r.doing.who; seated = r.doing.seated; valid = wrote r.doing.valid e; fits = r.doing.fits }; begun = record { is = r.begun.is; early = r.begun.early }; logs = record { written = ap (enter c x) r.logs.written; covers = r.logs.covers; few_reads = r.logs.few_reads; few_writes = few_entered c x s.writes 32 r.logs.few_writes (not_full (has c s.writes) (length s.writes) 32 i) } })
           tt tt))
 
@@ -246,8 +246,8 @@ module _ {B : Type 0} (m : Ghosts B) (σ : List ℤ) (law : Laws m) where
         where
           way : Ends m σ s → (y : Way) → Fine Run (way_step g.core.number y)
           way en One = look_good Run None (λ z. absurd (true≢false z)) r en tt One
-          way en Two = calm Run (g.queue ++ (k ∷ [])) (Some (to Wait s)) GoneOn 0 Nothing v (λ z. absurd (false≢true z)) (r, en) tt tt
-          way en Three = calm Run (g.queue ++ (k ∷ [])) (Some (to Wait s)) GoneOn 0 Nothing v (λ z. absurd (false≢true z)) (r, en) tt tt
+          way en Two = calm Run (g.queue ++ (k ∷ [])) (Some (to Wait s)) GoneOn Nothing v (λ z. absurd (false≢true z)) (r, en) tt tt
+          way en Three = calm Run (g.queue ++ (k ∷ [])) (Some (to Wait s)) GoneOn Nothing v (λ z. absurd (false≢true z)) (r, en) tt tt
 
           reader : eqb (length s.writes) 0 ≡ true → Fine Run (commits_as s.start Unchanged None)
           reader h =
@@ -284,7 +284,7 @@ module _ {B : Type 0} (m : Ghosts B) (σ : List ℤ) (law : Laws m) where
             let l : mark_of g.core c ≤ v.start = omega (arith, ltb-false s.start (mark_of g.core c) h, r.begun.is) in
             let z : x ≡ y = ⊎_elim (λ a. absurd (omega arith)) (λ a. a) f.3 in
             let q : x ≡ own_or c y v.told = z ∙ sym (logged_miss c y (log v.told) hs) ∙ logged_log c y v.told in
-            calm (Check c x) g.queue _ GoneOn 0 (Handed c x) (heard (Handed c x) v) (λ z. absurd (false≢true z))
+            calm (Check c x) g.queue _ GoneOn (Handed c x) (heard (Handed c x) v) (λ z. absurd (false≢true z))
             (record { helper = r.helper; doing = record { who = r.doing.who; seated = r.doing.seated; valid = read r.doing.valid f.1 q; fits = r.doing.fits }; begun = record { is = r.begun.is; early = r.begun.early }; logs = record { written = r.logs.written; covers = (λ _. mem_noted c s.reads, covers_more s.reads (note c s.reads) v.told (λ d. mem_note d c s.reads) r.logs.covers); few_reads = few_noted c s.reads 64 r.logs.few_reads (not_full (mem c s.reads) (length s.reads) 64 i); few_writes = r.logs.few_writes } })
             (r.begun.early, q) tt
 
@@ -330,7 +330,7 @@ module _ {B : Type 0} (m : Ghosts B) (σ : List ℤ) (law : Laws m) where
             r' = ready_taken (g.core.number + 1) (omega (arith, ev)) f.0
 
             into : (p : Phase) → holds p ≡ true → Facts m σ (numbered (g.core.number + 1) g.core) g.flag C k s v p → Fine (Swap o c) (does NumberRaised p)
-            into p hp i = busy (Swap o c) (numbered (g.core.number + 1) g.core) (Some (to p s)) GoneOn 0 Nothing v C (sh_take m σ g.core C sh ev) (later_take m σ g.core C sh ev) i (takes ev (omega (arith, ev)) (inl down) hp) tt tt
+            into p hp i = busy (Swap o c) (numbered (g.core.number + 1) g.core) (Some (to p s)) GoneOn Nothing v C (sh_take m σ g.core C sh ev) (later_take m σ g.core C sh ev) i (takes ev (omega (arith, ev)) (inl down) hp) tt tt
 
             checks : Fine (Swap o c) (does NumberRaised (Validate 0))
             checks = into (Validate 0) refl (r', f.1, omega (arith, ev), sh.free ev, λ d. omega (arith, sh.high d, ev), some_entries f.1, λ j l. absurd (omega arith))
@@ -353,7 +353,7 @@ module _ {B : Type 0} (m : Ghosts B) (σ : List ℤ) (law : Laws m) where
     good_mark_at : (i : ℕ) → Facts m σ g.core g.flag C k s v (Mark i) → Fine (Mark i) (step_at m g k s (Mark i))
     good_mark_at i f =
         let c = (get_or s.writes i no_entry).cell in
-        busy (Mark i) (mark_set c g.core) (Some (to (Cell i) s)) GoneOn 0 Nothing v C (sh_mark m σ g.core C sh c f.0.odd) (later_mark m σ g.core C sh c f.0.odd) (f.0, f.1, f.2, mark_set_here g.core c sh.some) (works refl f.0.odd) tt tt
+        busy (Mark i) (mark_set c g.core) (Some (to (Cell i) s)) GoneOn Nothing v C (sh_mark m σ g.core C sh c f.0.odd) (later_mark m σ g.core C sh c f.0.odd) (f.0, f.1, f.2, mark_set_here g.core c sh.some) (works refl f.0.odd) tt tt
 
     good_cell_at : (i : ℕ) → Facts m σ g.core g.flag C k s v (Cell i) → Fine (Cell i) (step_at m g k s (Cell i))
     good_cell_at i f =
@@ -361,8 +361,8 @@ module _ {B : Type 0} (m : Ghosts B) (σ : List ℤ) (law : Laws m) where
         let x = (get_or s.writes i no_entry).amount in
         let e : set g.core.cells c x ≡ emit (take (i + 1) s.writes) (full m σ C) = rw add-one (ap (λ z. set z c x) f.2 ∙ sym (emit_take s.writes i no_entry (full m σ C) f.1)) in
         cond_both (ltb (i + 1) (length s.writes)) _ _ (λ p. Fine (Cell i) (does (CellSet c x) p))
-        (λ l. busy (Cell i) (cell_set c x g.core) (Some (to (Mark (i + 1)) s)) GoneOn 0 Nothing v C (sh_cell m σ g.core C sh c x f.0.odd f.3) (later_cell m σ g.core C sh c x) (f.0, ltb-true (i + 1) (length s.writes) l, e) (works refl f.0.odd) tt tt)
-        (λ l. busy (Cell i) (cell_set c x g.core) (Some (to Release s)) GoneOn 0 Nothing v C (sh_cell m σ g.core C sh c x f.0.odd f.3) (later_cell m σ g.core C sh c x) (f.0, e ∙ ap (λ W. emit W (full m σ C)) (take_all (i + 1) s.writes (ltb-false (i + 1) (length s.writes) l))) (works refl f.0.odd) tt tt)
+        (λ l. busy (Cell i) (cell_set c x g.core) (Some (to (Mark (i + 1)) s)) GoneOn Nothing v C (sh_cell m σ g.core C sh c x f.0.odd f.3) (later_cell m σ g.core C sh c x) (f.0, ltb-true (i + 1) (length s.writes) l, e) (works refl f.0.odd) tt tt)
+        (λ l. busy (Cell i) (cell_set c x g.core) (Some (to Release s)) GoneOn Nothing v C (sh_cell m σ g.core C sh c x f.0.odd f.3) (later_cell m σ g.core C sh c x) (f.0, e ∙ ap (λ W. emit W (full m σ C)) (take_all (i + 1) s.writes (ltb-false (i + 1) (length s.writes) l))) (works refl f.0.odd) tt tt)
 
     good_release : Facts m σ g.core g.flag C k s v Release → Fine Release (step_at m g k s Release)
     good_release f =
@@ -370,7 +370,7 @@ module _ {B : Type 0} (m : Ghosts B) (σ : List ℤ) (law : Laws m) where
         let w : over v.told (full m σ C) ≡ g.core.cells = sym (emit_log v.told (full m σ C)) ∙ ap (λ W. emit W (full m σ C)) (sym f.0.logs.written) ∙ sym f.1 in
         let a : alone m d.who (full m σ C) ≡ record { handed = amounts v.told; cells = g.core.cells } = replay m law d.valid (omega (arith, length_full m σ C, d.fits)) f.0.ends.asked ∙ ap {B = Outcome} (λ z. record { handed = amounts v.told; cells = z }) w in
         subst (λ z. Good m σ g C k Release v (out_of m g k s (step_at m g k s Release)) v (with_body z g.core.number (amounts v.told) C)) (sym d.seated)
-        (busy Release (numbered (g.core.number + 1) g.core) (seat_to m (after_release s.way) s) Committed g.core.number Nothing v (record { number = g.core.number; body = d.who; handed = amounts v.told } ∷ C)
+        (busy Release (numbered (g.core.number + 1) g.core) (seat_to m (after_release s.way) s) (Committed g.core.number) Nothing v (record { number = g.core.number; body = d.who; handed = amounts v.told } ∷ C)
         (sh_commit m σ g.core C sh d.who (amounts v.told) f.0.odd a)
         (later_commit m σ g.core C sh d.who (amounts v.told) f.0.odd) (left _ _ s.way) (works refl f.0.odd) tt tt)
       where
@@ -389,9 +389,9 @@ module _ {B : Type 0} (m : Ghosts B) (σ : List ℤ) (law : Laws m) where
         l = later_give m σ g.core C sh f.2
 
         by : (y : Way) → Fine LetGo (let_go_step y)
-        by One = busy LetGo (numbered (g.core.number - 1) g.core) (Some (to Begin s)) BrokenOff 0 Nothing v C sh' l (f.0, f.1) (works refl f.2) tt f.0
-        by Two = busy LetGo (numbered (g.core.number - 1) g.core) (Some (to Quit s)) GoneOn 0 Nothing v C sh' l (f.0, f.1) (works refl f.2) tt tt
-        by Three = busy LetGo (numbered (g.core.number - 1) g.core) (Some (to Quit s)) GoneOn 0 Nothing v C sh' l (f.0, f.1) (works refl f.2) tt tt
+        by One = busy LetGo (numbered (g.core.number - 1) g.core) (Some (to Begin s)) BrokenOff Nothing v C sh' l (f.0, f.1) (works refl f.2) tt f.0
+        by Two = busy LetGo (numbered (g.core.number - 1) g.core) (Some (to Quit s)) GoneOn Nothing v C sh' l (f.0, f.1) (works refl f.2) tt tt
+        by Three = busy LetGo (numbered (g.core.number - 1) g.core) (Some (to Quit s)) GoneOn Nothing v C sh' l (f.0, f.1) (works refl f.2) tt tt
 
     -- Any step
     pub good : (p : Phase) → Facts m σ g.core g.flag C k s v p → Fine p (step_at m g k s p)
@@ -413,4 +413,4 @@ module _ {B : Type 0} (m : Ghosts B) (σ : List ℤ) (law : Laws m) where
     good Release f = good_release f
     good LetGo f = good_let_go f
     good Quit f = broken Quit (without k g.queue) f.0 f.1
-    good Leave f = calm Leave (without k g.queue) None GoneOn 0 Nothing v (λ z. absurd (false≢true z)) tt tt tt
+    good Leave f = calm Leave (without k g.queue) None GoneOn Nothing v (λ z. absurd (false≢true z)) tt tt tt

@@ -20,7 +20,6 @@ use Rattle.lane.specs.declared.seated.Seated.{Seated}
 use Rattle.lane.specs.declared.step.Effect.{Effect}
 use Rattle.lane.specs.declared.step.Effect.TheVariants.{Unchanged, FlagSet, LaneTaken, MarkSet, CellSet, NumberRaised, NumberLowered, QueueJoined, QueueLeft}
 use Rattle.lane.specs.declared.step.Step.{Step}
-use Rattle.lane.specs.declared.stepped.Stepped.{Stepped}
 use Rattle.lane.specs.declared.written.Written.{Written}
 use Rattle.lane.specs.Effects.{shared_after, start_after, body_after}
 use Rattle.lane.specs.History.{Call, seated, stepped, other, Moment}
@@ -198,13 +197,13 @@ module _ {B : Type 0} (m : Ghosts B) where
 -- Step ------------------------------------------------------------------------
 
 -- The record of a commit, where the step commits.
-abbrev pub commit_record : ℕ → ℕ → Seated → ℕ → Answer → Option Record
-commit_record kind k s n GoneOn = None
-commit_record kind k s n Waiting = None
-commit_record kind k s n Paused = None
-commit_record kind k s n BrokenOff = None
-commit_record kind k s n Committed = Some (Commit n k kind s.tag s.made)
-commit_record kind k s n TooLong = None
+abbrev pub commit_record : ℕ → ℕ → Seated → Answer → Option Record
+commit_record kind k s GoneOn = None
+commit_record kind k s Waiting = None
+commit_record kind k s Paused = None
+commit_record kind k s BrokenOff = None
+commit_record kind k s (Committed n) = Some (Commit n k kind s.tag s.made)
+commit_record kind k s TooLong = None
 
 -- The record of a step: of the change, where it sets a cell, and otherwise of the commit.
 abbrev pub record_by : Effect → ℕ → Option Record → Option Record
@@ -281,7 +280,7 @@ module _ {B : Type 0} (m : Ghosts B) where
   has_room w = nat_lt w.used w.sizes.journal
 
   abbrev pub record_of : World B → ℕ → Seated → Step → Option Record
-  record_of w k s z = record_by z.effect w.shared.core.number (commit_record m.KIND k s z.number z.answer)
+  record_of w k s z = record_by z.effect w.shared.core.number (commit_record m.KIND k s z.answer)
 
   -- What the book knows of the transaction after a step, but for its phase.
   abbrev pub moved : World B → ℕ → Seated → Step → Seated
@@ -323,20 +322,17 @@ module _ {B : Type 0} (m : Ghosts B) where
   abbrev pub can_step : World B → ℕ → Seated → B → Bool
   can_step w k s b = same_sizes w && there (length w.shared.core.cells) (entry_of (work_of w k s b) s.phase)
 
-  abbrev pub answered : Step → Stepped
-  answered z = record { answer = z.answer; number = z.number }
-
   -- What a step answers.
-  abbrev pub step_reply_by : World B → ℕ → Option Seated → Option B → Result Stepped StepRefusal
+  abbrev pub step_reply_by : World B → ℕ → Option Seated → Option B → Result Answer StepRefusal
   step_reply_by w k None b = Err steps.Idle
   step_reply_by w k (Some s) None = Err steps.Idle
-  step_reply_by w k (Some s) (Some b) = cond (can_step w k s b) (Ok (answered (step_now w k s b))) (Err steps.Lists)
+  step_reply_by w k (Some s) (Some b) = cond (can_step w k s b) (Ok (step_now w k s b).answer) (Err steps.Lists)
 
-  abbrev pub step_reply : World B → ℕ → Result Stepped StepRefusal
+  abbrev pub step_reply : World B → ℕ → Result Answer StepRefusal
   step_reply w k = cond (nat_lt w.helpers k) (Err steps.NoSeat) (step_reply_by w k (slice_index_or w.seats k None) (slice_index_or w.bodies k None))
 
   abbrev pub step_did : World B → ℕ → Seated → B → Step → After B
-  step_did w k s b z = at_moment (stepped k z.answer z.number z.told) (step_world w k s b z)
+  step_did w k s b z = at_moment (stepped k z.answer z.told) (step_world w k s b z)
 
   abbrev pub step_by : World B → ℕ → Option Seated → Option B → After B
   step_by w k None b = untouched w

@@ -6,11 +6,11 @@ use Rattle.lane.specs.declared.answer.Answer.TheVariants.{GoneOn, Waiting, Pause
 use Rattle.lane.specs.declared.told.Told.{Told}
 use Rattle.lane.specs.declared.told.Told.TheVariants.{Nothing, Restarted, Handed, Taken}
 
--- One call: a body was seated at a seat; a seat was stepped, with its answer, the number answered and what its body was
--- told; or anything else, refusals too.
+-- One call: a body was seated at a seat; a seat was stepped, with its answer and what its body was told; or anything
+-- else, refusals too.
 pub data Call (B : Type 0) : Type 0 where
   seated : ℕ → B → Call B
-  stepped : ℕ → Answer → ℕ → Told → Call B
+  stepped : ℕ → Answer → Told → Call B
   other : Call B
 
 -- A call, and the counter word after it.
@@ -39,7 +39,7 @@ module _ {B : Type 0} where
   body_of k (e ∷ h) =
       elim e.call [
         | seated j b ↦ cond (j == k) (Some b) (body_of k h)
-        | stepped j a n t ↦ body_of k h
+        | stepped j a t ↦ body_of k h
         | other ↦ body_of k h
       ]
 
@@ -49,7 +49,7 @@ module _ {B : Type 0} where
   attempt k (e ∷ h) =
       elim e.call [
         | seated j b ↦ attempt k h
-        | stepped j a n t ↦
+        | stepped j a t ↦
             cond (j == k)
             (elim t [
               | Nothing ↦ attempt k h
@@ -67,7 +67,7 @@ module _ {B : Type 0} where
   start_of k (e ∷ h) =
       elim e.call [
         | seated j b ↦ start_of k h
-        | stepped j a n t ↦
+        | stepped j a t ↦
             cond (j == k)
             (elim t [
               | Nothing ↦ start_of k h
@@ -113,13 +113,13 @@ module _ {B : Type 0} where
   commits (e ∷ h) =
       elim e.call [
         | seated j b ↦ commits h
-        | stepped j a n t ↦
+        | stepped j a t ↦
             elim a [
               | GoneOn ↦ commits h
               | Waiting ↦ commits h
               | Paused ↦ commits h
               | BrokenOff ↦ commits h
-              | Committed ↦ with_body (body_of j h) n (amounts (attempt j (e ∷ h))) (commits h)
+              | Committed n ↦ with_body (body_of j h) n (amounts (attempt j (e ∷ h))) (commits h)
               | TooLong ↦ commits h
             ]
         | other ↦ commits h
@@ -131,6 +131,6 @@ module _ {B : Type 0} where
   steps_of k (e ∷ h) =
       elim e.call [
         | seated j b ↦ steps_of k h
-        | stepped j a n t ↦ cond (j == k) (1 + steps_of k h) (steps_of k h)
+        | stepped j a t ↦ cond (j == k) (1 + steps_of k h) (steps_of k h)
         | other ↦ steps_of k h
       ]

@@ -20,7 +20,7 @@ module _ {B : Type 0} (m : Ghosts B) (o : Opening) where
 
   -- Seat k takes the lane, or gives it back, by the moment e after h: it was stepped, and the number became odd, or even.
   abbrev pub Turns : ℕ → ℕ → ℕ → Moment B → History B → Type 0
-  Turns k before after e h = ((a : Answer) × (n : ℕ) × (t : Told) × (e.call ≡ stepped k a n t)) × (number_at h % 2 ≡ before) × (e.number % 2 ≡ after)
+  Turns k before after e h = ((a : Answer) × (t : Told) × (e.call ≡ stepped k a t)) × (number_at h % 2 ≡ before) × (e.number % 2 ≡ after)
 
   abbrev pub Takes : ℕ → Moment B → History B → Type 0
   Takes k e h = Turns k 0 1 e h
@@ -35,11 +35,11 @@ module _ {B : Type 0} (m : Ghosts B) (o : Opening) where
     pub settled : number_at h % 2 ≡ 0 → cells ≡ leaves m (ordered (commits h)) o.cells
     -- Every amount ever handed, to any attempt, committed or not, is the attempt's own last write to the cell, or what the
     -- serial run over the commits numbered up to its start leaves there.
-    pub snapshot : (newer older : History B) (e : Moment B) (k : ℕ) (a : Answer) (n c : ℕ) (v : ℤ)
-        → h ≡ newer ++ (e ∷ older) → e.call ≡ stepped k a n (Handed c v)
+    pub snapshot : (newer older : History B) (e : Moment B) (k : ℕ) (a : Answer) (c : ℕ) (v : ℤ)
+        → h ≡ newer ++ (e ∷ older) → e.call ≡ stepped k a (Handed c v)
         → v ≡ own_or c (slice_index_or (leaves m (ordered (upto (start_of k older) (commits h))) o.cells) c (pos 0)) (attempt k older)
     -- No step of the master answers that it is broken off.
-    pub never_broken : (newer older : History B) (e : Moment B) (n : ℕ) (t : Told) → h ≡ newer ++ (e ∷ older) → e.call ≢ stepped 0 BrokenOff n t
+    pub never_broken : (newer older : History B) (e : Moment B) (t : Told) → h ≡ newer ++ (e ∷ older) → e.call ≢ stepped 0 BrokenOff t
     -- While the flag is set no helper takes the lane, and only the master's taking of the lane clears it.
     pub reserved : (newer older : History B) (e : Moment B) → h ≡ newer ++ (e ∷ older) → flag_after older ≡ true
         → (((k : ℕ) → Takes k e older → k ≡ 0) × (e.flag ≡ false → Takes 0 e older))
@@ -50,5 +50,5 @@ module _ {B : Type 0} (m : Ghosts B) (o : Opening) where
     -- From a moment when the master has reserved and the number is even, a master that has not committed has made at most
     -- 2 * length + 2 steps: one more at the most brings the commit.
     pub soon : (newer older : History B) (b : B) → h ≡ newer ++ older → flag_after older ≡ true → number_at older % 2 ≡ 0 → body_of 0 older ≡ Some b
-        → ((new old : History B) (f : Moment B) (n : ℕ) (t : Told) → newer ≡ new ++ (f ∷ old) → f.call ≢ stepped 0 Committed n t)
+        → ((new old : History B) (f : Moment B) (n : ℕ) (t : Told) → newer ≡ new ++ (f ∷ old) → f.call ≢ stepped 0 (Committed n) t)
         → steps_of 0 newer ≤ 2 * m.len b + 2

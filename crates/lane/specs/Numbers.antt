@@ -15,7 +15,7 @@ answer_number GoneOn = 0
 answer_number Waiting = 1
 answer_number Paused = 2
 answer_number BrokenOff = 3
-answer_number Committed = 4
+answer_number (Committed n) = 4
 answer_number TooLong = 5
 
 abbrev pub open_refusal_number : OpenRefusal → ℕ

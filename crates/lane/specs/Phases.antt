@@ -23,7 +23,7 @@ use Rattle.lane.specs.State.{Shared, Work, entries, odd, base, stale, first_is}
 
 -- Goes to a phase with this answer, and changes this one thing.
 abbrev pub answers : Answer → Effect → Phase → Step
-answers a e p = record { next = Some p; answer = a; number = 0; told = Nothing; log = Same; effect = e }
+answers a e p = record { next = Some p; answer = a; told = Nothing; log = Same; effect = e }
 
 -- Goes on, and changes nothing that is shared.
 abbrev pub goes : Phase → Step
@@ -43,23 +43,23 @@ breaks_off e = answers BrokenOff e Begin
 
 -- The body is restarted, in an attempt with this start; its logs are emptied.
 abbrev pub restarts : ℕ → Effect → Phase → Step
-restarts n e p = record { next = Some p; answer = GoneOn; number = 0; told = Restarted n; log = Emptied; effect = e }
+restarts n e p = record { next = Some p; answer = GoneOn; told = Restarted n; log = Emptied; effect = e }
 
 -- The body is told the amount that it asked for.
 abbrev pub hands : ℕ → ℤ → LogChange → Phase → Step
-hands c v l p = record { next = Some p; answer = GoneOn; number = 0; told = Handed c v; log = l; effect = Unchanged }
+hands c v l p = record { next = Some p; answer = GoneOn; told = Handed c v; log = l; effect = Unchanged }
 
 -- The body is told that its write was taken.
 abbrev pub takes_write : ℕ → ℤ → LogChange → Effect → Phase → Step
-takes_write c v l e p = record { next = Some p; answer = GoneOn; number = 0; told = Taken c v; log = l; effect = e }
+takes_write c v l e p = record { next = Some p; answer = GoneOn; told = Taken c v; log = l; effect = e }
 
 -- The transaction commits under this number.
 abbrev pub commits_as : ℕ → Effect → Option Phase → Step
-commits_as n e p = record { next = p; answer = Committed; number = n; told = Nothing; log = Same; effect = e }
+commits_as n e p = record { next = p; answer = Committed n; told = Nothing; log = Same; effect = e }
 
 -- The transaction does not fit its logs.
 abbrev pub too_long : Step
-too_long = record { next = None; answer = TooLong; number = 0; told = Nothing; log = Same; effect = Unchanged }
+too_long = record { next = None; answer = TooLong; told = Nothing; log = Same; effect = Unchanged }
 
 -- The master ------------------------------------------------------------------
 
@@ -187,7 +187,7 @@ abbrev pub quit_step : Step
 quit_step = breaks_off QueueLeft
 
 abbrev pub leave_step : Step
-leave_step = record { next = None; answer = GoneOn; number = 0; told = Nothing; log = Same; effect = QueueLeft }
+leave_step = record { next = None; answer = GoneOn; told = Nothing; log = Same; effect = QueueLeft }
 
 -- Any step: of seat k, in this phase.
 module _ {B : Type 0} (m : Ghosts B) where

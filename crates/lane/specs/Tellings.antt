@@ -18,12 +18,12 @@ module _ {B : Type 0} (m : Ghosts B) where
   -- The body at the stepped seat is told this, and every other is as it was. Any other call tells no body.
   abbrev pub Tells : Call B → List (Option B) → List (Option B) → Type 0
   Tells (seated k b) before after = after ≡ slice_set before k (Some b)
-  Tells (stepped k a n t) before after =
+  Tells (stepped k a t) before after =
       (b : B) × (slice_index_or before k None ≡ Some b) × (after ≡ slice_set before k (Some (body_after m t b)))
   Tells other before after = after ≡ before
 
   -- What a step tells answers what the body asks for.
   abbrev pub Answered : Call B → List (Option B) → Type 0
   Answered (seated k b) before = Unit {0}
-  Answered (stepped k a n t) before = (b : B) → slice_index_or before k None ≡ Some b → AnswersRequest t b
+  Answered (stepped k a t) before = (b : B) → slice_index_or before k None ≡ Some b → AnswersRequest t b
   Answered other before = Unit {0}

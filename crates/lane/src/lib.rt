@@ -3,13 +3,11 @@
 #![tactic(auto)]
 
 mod answer;
-mod numbers;
 mod phase;
 mod refusal;
 mod seated;
 mod sizes;
 mod step;
-mod stepped;
 mod told;
 mod written;
 
@@ -19,6 +17,5 @@ pub use refusal::{OpenRefusal, PauseRefusal, SeatRefusal, StepRefusal};
 pub use seated::Seated;
 pub use sizes::Sizes;
 pub use step::{Effect, LogChange, Step};
-pub use stepped::Stepped;
 pub use told::Told;
 pub use written::Written;

@@ -1,47 +1,81 @@
-// Why a call is refused. A refused call changes nothing.
+// Why a call is refused. A refused call changes nothing. Each refusal has a number of its own.
+ghost use Rattle.std.specs.Prelude.{◌≡◌};
+ghost use Rattle.lane.specs.Numbers.{open_refusal_number, pause_refusal_number, seat_refusal_number, step_refusal_number};
 
 #[derive(Clone, Copy, Debug, PartialEq)]
 pub enum OpenRefusal {
     // Not 1 to 4096 cells.
-    Cells,
+    Cells = 1,
     // Not 1 to 1024 marks.
-    Marks,
+    Marks = 2,
     // More than 8 helpers, or a log list too short for them.
-    Helpers,
+    Helpers = 3,
     // A journal of more than 65,536 records.
-    Journal,
+    Journal = 4,
     // A number that is odd, or 2,147,483,600 or more.
-    Number,
+    Number = 5,
     // An amount beyond the limit.
-    Amount,
+    Amount = 6,
+}
+
+impl OpenRefusal {
+    pub fn number(self) -> u32
+        ensures { result ≡ open_refusal_number self }
+    {
+        self as u32
+    }
 }
 
 #[derive(Clone, Copy, Debug, PartialEq)]
 pub enum SeatRefusal {
     // No such seat.
-    NoSeat,
+    NoSeat = 10,
     // The seat is not idle.
-    NotIdle,
+    NotIdle = 11,
     // Not way 0 for the master, or 1 to 3 for a helper.
-    NoWay,
+    NoWay = 12,
     // The body names a cell that the book has not.
-    Reach,
+    Reach = 13,
     // The number has come to 2,147,483,600.
-    Number,
+    Number = 14,
     // Too few records are left.
-    Records,
+    Records = 15,
+}
+
+impl SeatRefusal {
+    pub fn number(self) -> u32
+        ensures { result ≡ seat_refusal_number self }
+    {
+        self as u32
+    }
 }
 
 #[derive(Clone, Copy, Debug, PartialEq)]
 pub enum StepRefusal {
     // No such seat.
-    NoSeat,
+    NoSeat = 20,
     // The seat is idle.
-    Idle,
+    Idle = 21,
     // A list of another length than at open, or an entry of no such cell.
-    Lists,
+    Lists = 22,
+}
+
+impl StepRefusal {
+    pub fn number(self) -> u32
+        ensures { result ≡ step_refusal_number self }
+    {
+        self as u32
+    }
 }
 
 // A pause stands already.
 #[derive(Clone, Copy, Debug, PartialEq)]
 pub struct PauseRefusal;
+
+impl PauseRefusal {
+    pub fn number(self) -> u32
+        ensures { result ≡ pause_refusal_number self }
+    {
+        30
+    }
+}

@@ -8,8 +8,6 @@ pub struct Step {
     // The seat's next phase, or none where it becomes idle.
     pub next: Option<Phase>,
     pub answer: Answer,
-    // The commit's number, or 0.
-    pub number: u32,
     pub told: Told,
     pub log: LogChange,
     pub effect: Effect,

@@ -50,8 +50,8 @@ fn run_seated(book: &mut Book<Import>, lists: &mut Lists<'_>) -> Result<usize, u
 fn run(book: &mut Book<Import>, lists: &mut Lists<'_>, most: u32) -> Result<(), u32> {
     for _ in 0..most {
         match book.step(lists, MASTER) {
-            Ok(stepped) => {
-                if matches!(stepped.answer, Answer::Committed) {
+            Ok(answer) => {
+                if matches!(answer, Answer::Committed(_)) {
                     return Ok(());
                 }
             }

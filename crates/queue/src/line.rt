@@ -1,9 +1,10 @@
 // A queue of at most eight seats: what it holds.
-ghost use Rattle.std.specs.Prelude.{◌≤◌};
+use arrayvec::ArrayVec;
 
-#[derive(Clone, Copy)]
+// The most seats that can be in the queue.
+const ROOM: usize = 8;
+
+#[derive(Clone, Drop)]
 pub struct Queue {
-    pub(crate) seats: [u32; 8],
-    pub(crate) len: usize,
-    ghost within: { len ≤ 8 },
+    pub(crate) seats: ArrayVec<u32, ROOM>,
 }

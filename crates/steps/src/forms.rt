@@ -10,7 +10,6 @@ pub(crate) fn answering(answer: Answer, effect: Effect, phase: Phase) -> Step
     Step {
         next: Some(phase),
         answer,
-        number: 0,
         told: Told::Nothing,
         log: LogChange::Same,
         effect,
@@ -52,7 +51,6 @@ pub(crate) fn restarting(start: u32, effect: Effect, phase: Phase) -> Step
     Step {
         next: Some(phase),
         answer: Answer::GoneOn,
-        number: 0,
         told: Told::Restarted(start),
         log: LogChange::Emptied,
         effect,
@@ -66,7 +64,6 @@ pub(crate) fn handing(cell: u32, amount: i64, log: LogChange, phase: Phase) -> S
     Step {
         next: Some(phase),
         answer: Answer::GoneOn,
-        number: 0,
         told: Told::Handed(cell, amount),
         log,
         effect: Effect::Unchanged,
@@ -86,7 +83,6 @@ pub(crate) fn taking_write(
     Step {
         next: Some(phase),
         answer: Answer::GoneOn,
-        number: 0,
         told: Told::Taken(cell, amount),
         log,
         effect,
@@ -99,8 +95,7 @@ pub(crate) fn committing(number: u32, effect: Effect, next: Option<Phase>) -> St
 {
     Step {
         next,
-        answer: Answer::Committed,
-        number,
+        answer: Answer::Committed(number),
         told: Told::Nothing,
         log: LogChange::Same,
         effect,
@@ -114,7 +109,6 @@ pub(crate) fn giving_up() -> Step
     Step {
         next: None,
         answer: Answer::TooLong,
-        number: 0,
         told: Told::Nothing,
         log: LogChange::Same,
         effect: Effect::Unchanged,

@@ -176,7 +176,6 @@ pub fn leave() -> Step
     Step {
         next: None,
         answer: Answer::GoneOn,
-        number: 0,
         told: Told::Nothing,
         log: LogChange::Same,
         effect: Effect::QueueLeft,

@@ -1,9 +1,9 @@
 -- Runs of a book that is opened on some cells with two marks: who steps when, what each step answers, and the book after them.
 use Rattle.std.specs.Prelude.{ℕ, List, [], ◌∷◌, replicate, ℤ, pos, Ok, Result}
 use Rattle.journal.specs.declared.record.Record.TheVariants.{Change}
+use Rattle.lane.specs.declared.answer.Answer.{Answer}
 use Rattle.lane.specs.declared.answer.Answer.TheVariants as answers
 use Rattle.lane.specs.declared.refusal.StepRefusal.{StepRefusal}
-use Rattle.lane.specs.declared.stepped.Stepped.{Stepped}
 use Rattle.lane.specs.Calls.{Opened, seat_call, step_call, step_reply}
 use Rattle.lane.specs.Logs.{no_entry}
 use Rattle.lane.specs.Worlds.{World}
@@ -11,19 +11,19 @@ use Rattle.worked.specs.Planned.{Planned, planned}
 
 -- What a step answers.
 abbrev pub Reply : Type 0
-Reply = Result Stepped StepRefusal
+Reply = Result Answer StepRefusal
 
 abbrev pub gone_on : Reply
-gone_on = Ok (record { answer = answers.GoneOn; number = 0 })
+gone_on = Ok answers.GoneOn
 
 abbrev pub broken_off : Reply
-broken_off = Ok (record { answer = answers.BrokenOff; number = 0 })
+broken_off = Ok answers.BrokenOff
 
 abbrev pub committed : ℕ → Reply
-committed n = Ok (record { answer = answers.Committed; number = n })
+committed n = Ok (answers.Committed n)
 
 abbrev pub too_long : Reply
-too_long = Ok (record { answer = answers.TooLong; number = 0 })
+too_long = Ok answers.TooLong
 
 -- A book with number 0, one helper, two marks and forty records. Marks, logs and records hold what no book starts with.
 abbrev pub opened : List ℤ → Opened

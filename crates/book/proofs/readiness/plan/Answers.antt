@@ -15,7 +15,7 @@ returns g c =
     let s = c.args.seated in
     let l = c.args.lists.now in
     let h = c.saturating_sub-helper.ensures in
-    planned_some g.B.Body c.args.common l c.args.body.now c.args.seat s c.part-reads.result.now c.part-writes.result.now
+    planned_some g.B.Body c.args.common.now l c.args.body.now c.args.seat s c.part-reads.result.now c.part-writes.result.now
     (c.part-reads.ensures ∙ ap (λ x. stretch l.reads.now (64 * x) s.reads) h)
     (c.part-writes.ensures ∙ ap (λ x. stretch l.writes.now (32 * x) s.writes) h)
     c.decide.result c.kind_of.result (sym c.if-not-entry_there.ensures) c.decide.ensures c.kind_of.ensures
