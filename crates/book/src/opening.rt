@@ -56,21 +56,14 @@ fn too_short(reads: usize, writes: usize, helpers: u32) -> bool
 fn beyond(cells: &[i64]) -> bool
     ensures { result ≡ some_beyond cells.now }
 {
-    for i in 0..cells.len() {
-        if !is_within(cells[i]) {
-            return true;
-        }
-    }
-    false
+    cells.iter().any(|amount| !is_within(*amount))
 }
 
 // All marks become 0.
 pub(crate) fn clear(marks: &mut [u32])
     ensures { marks.new ≡ replicate (length marks.old) 0 }
 {
-    for i in 0..marks.len() {
-        marks[i] = 0;
-    }
+    marks.fill(0);
 }
 
 // A desk with all seats idle and nothing recorded.

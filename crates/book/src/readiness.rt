@@ -58,22 +58,14 @@ impl<B> Desk<B> {
     pub(crate) fn seated_at(&self, seat: u32) -> Option<Seated>
         ensures { result ≡ slice_index_or self.now.seats seat None }
     {
-        let at = seat as usize;
-        let seats = &self.seats[..];
-        if at < seats.len() { seats[at] } else { None }
+        self.seats.get(seat as usize).copied().flatten()
     }
 
     // The body at a seat, of its transaction or of its last one.
     pub(crate) fn body_at(&self, seat: u32) -> Option<&B>
         ensures { if_there (λ x. x.now) result ≡ slice_index_or self.now.bodies seat None }
     {
-        let at = seat as usize;
-        let bodies = &self.bodies[..];
-        if at < bodies.len() {
-            bodies[at].as_ref()
-        } else {
-            None
-        }
+        self.bodies.get(seat as usize)?.as_ref()
     }
 }
 

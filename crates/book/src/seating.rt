@@ -91,13 +91,12 @@ impl<B: Body> Desk<B> {
 impl<B> Desk<B> {
     // Whether too few records are left for a transaction of this length.
     fn lacks_records(&self, seat: u32, length: usize) -> bool
-        requires used { self.now.used ≤ 65536 }
-        requires journal { self.now.sizes.journal ≤ 65536 }
+        requires { self.now.sizes.journal ≤ 65536 }
         ensures { result ≡ nat_lt self.now.sizes.journal (self.now.used + kept self.now.seats + needed seat length) }
     {
         let kept = records_kept(&self.seats);
-        let all = (self.used + kept).saturating_add(records_needed(seat, length));
-        all > self.sizes.journal
+        let needed = records_needed(seat, length);
+        self.used.saturating_add(kept).saturating_add(needed) > self.sizes.journal
     }
 }
 
@@ -139,16 +138,12 @@ pub(crate) fn records_needed(seat: u32, length: usize) -> usize
 }
 
 // The records that the seated transactions keep.
-pub(crate) fn records_kept(seats: &[Option<Seated>]) -> usize
+#[tactic(auto, using(crate::proofs::Keeps::kept_is))]
+fn records_kept(seats: &[Option<Seated>]) -> usize
     requires { length seats.now ≤ 9 }
-    ensures sum { result ≡ kept seats.now }
-    ensures few { result < 2 ^ 40 }
+    ensures { result ≡ kept seats.now }
 {
-    let mut sum: usize = 0;
-    for i in 0..seats.len() {
-        sum += keeps(seats[i]) as usize;
-    }
-    sum
+    seats.iter().map(|seat| keeps(*seat) as usize).sum()
 }
 
 // What the transaction at a seat keeps. One that is only to leave the queue has committed, and keeps nothing.
