@@ -13,7 +13,7 @@ ghost use Rattle.book.specs.Seatings.{seat_answer};
 
 use super::book::Book;
 use super::lists::Lists;
-use super::opening::{clear, fresh, refusal};
+use super::opening::Terms;
 use super::refused::SeatRefused;
 use super::ticket::{ResumeRefusal, Ticket};
 use body::Body;
@@ -29,14 +29,15 @@ impl<B: Body + Drop> Book<B> {
     ) -> Result<Book<B>, OpenRefusal>
         ensures { OpensBook B.Body name helpers number lists.old result lists.new }
     {
-        match refusal(lists, name, helpers, number) {
-            Some(refusal) => Err(refusal),
-            None => {
-                let desk = fresh(lists, name, helpers, number);
-                clear(lists.marks);
-                Ok(Book { desk })
-            }
-        }
+        let terms = Terms {
+            name,
+            helpers,
+            number,
+        };
+        terms.admit(lists)?;
+        let desk = terms.desk(lists);
+        lists.marks.fill(0);
+        Ok(Book { desk })
     }
 
     // Seats a transaction. A body that is refused comes back.

@@ -8,6 +8,7 @@ mod changing;
 mod common;
 mod deciding;
 mod desk;
+mod limits;
 mod lists;
 mod logging;
 mod opening;

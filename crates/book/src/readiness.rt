@@ -10,6 +10,7 @@ ghost use Rattle.book.specs.Views.{if_there, planned, ready_of, work_with, world
 use super::common::Common;
 use super::deciding::{Sight, decide};
 use super::desk::Desk;
+use super::limits::{MOST_READS, MOST_WRITES};
 use super::lists::Lists;
 use super::ready::Ready;
 use body::Body;
@@ -86,8 +87,8 @@ fn plan<B: Body>(
     ensures { result ≡ planned B.Body common lists.now body.now seat seated }
 {
     let helper = seat.saturating_sub(1) as usize;
-    let reads = part(&*lists.reads, 64 * helper, seated.reads);
-    let writes = part(&*lists.writes, 32 * helper, seated.writes);
+    let reads = part(&*lists.reads, MOST_READS * helper, seated.reads);
+    let writes = part(&*lists.writes, MOST_WRITES * helper, seated.writes);
     if !entry_there(lists.cells.len(), reads, writes, seated) {
         return None;
     }

@@ -6,12 +6,10 @@ ghost use Rattle.book.specs.Seatings.{seat_answer};
 ghost use Rattle.book.specs.Views.{bare};
 
 use super::desk::Desk;
+use super::limits::{MOST_WRITES, TOP_NUMBER};
 use super::refused::SeatRefused;
 use body::Body;
 use lane::{Phase, SeatRefusal, Seated, Way};
-
-// No transaction is seated from this number on.
-const TOP_NUMBER: u32 = 2_147_483_600;
 
 impl<B: Body + Drop> Desk<B> {
     pub(crate) fn seat(
@@ -133,7 +131,7 @@ pub(crate) fn records_needed(seat: u32, length: usize) -> usize
     if seat == 0 {
         length.saturating_add(1)
     } else {
-        length.min(32) + 1
+        length.min(MOST_WRITES) + 1
     }
 }
 
