@@ -1,5 +1,5 @@
 -- A search for an amount beyond the limit.
-use Rattle.std.proofs.Common.{◌≡◌, Bool, not, ◌||◌, List, ℤ, refl}
+use Rattle.std.proofs.Common.{◌≡◌, not, ◌||◌, List, ℤ, refl}
 use Rattle.std.specs.List.{list_any}
 use Rattle.std.proofs.lemmas.List.Recursion.{same_from_clauses}
 use Rattle.money.specs.Amounts.{within_limit}

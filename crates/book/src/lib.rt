@@ -12,7 +12,6 @@ mod limits;
 mod lists;
 mod logging;
 mod opening;
-mod pausing;
 mod questions;
 mod readiness;
 mod ready;
@@ -20,7 +19,6 @@ mod recording;
 mod refused;
 mod seating;
 mod status;
-mod stepping;
 mod telling;
 mod ticket;
 

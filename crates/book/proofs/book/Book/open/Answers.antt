@@ -1,6 +1,5 @@
-use Rattle.std.proofs.Common.{◌≡◌, length, replicate, None, sym, rules}
+use Rattle.std.proofs.Common.{◌≡◌, length, replicate, sym, rules}
 use borrow.Rule.Slice.Mut.{set_vals}
-use Rattle.lane.specs.Calls.{open_refusal}
 use Rattle.lane.proofs.Keeping.{open_begins}
 use Rattle.book.specs.declared.lists.Lists.{Lists}
 use Rattle.book.specs.Views.{opened_with}
