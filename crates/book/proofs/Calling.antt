@@ -1,12 +1,12 @@
 -- From a book without its lists to the same with any lists, and that calls keep a book sane.
-use Rattle.std.proofs.Common.{◌≡◌, ℕ, Bool, true, false, cond, eqb, List, [], length, replicate, Some, None, Option, sym, refl, ap, ◌∙◌, subst, MutBor}
+use Rattle.std.proofs.Common.{◌≡◌, ℕ, Bool, false, List, [], length, replicate, Some, None, Option, sym, refl, ap, ◌∙◌, subst, MutBor}
 use mathlib.Core.Logic.{∥∥₁_map}
 use Rattle.body.specs.declared.body.Body.{Ghosts}
 use Rattle.lane.specs.declared.refusal.SeatRefusal.{SeatRefusal}
-use Rattle.lane.specs.Calls.{Opened, open_refusal, open_world, seat_by, seat_call, seat_refusal, step_call, paused_as, pause_call, resume_call, untouched}
+use Rattle.lane.specs.Calls.{Opened, open_refusal, open_world, seat_by, seat_call, seat_refusal, step_call}
 use Rattle.lane.specs.Sane.{Sane}
 use Rattle.lane.specs.Worlds.{World}
-use Rattle.lane.proofs.Sanity.{opens_well, sane_open, sane_pause, sane_resume, sane_seat, sane_step}
+use Rattle.lane.proofs.Sanity.{opens_well, sane_open, sane_seat, sane_step}
 use Rattle.book.specs.declared.desk.Desk.{Desk}
 use Rattle.book.specs.declared.lists.Lists.{Lists}
 use Rattle.book.specs.Views.{bare, bare_open, opened_with, world}
@@ -40,28 +40,23 @@ module _ {B : Type 0} where
   pub sane_bare : (d : Desk B) (l : Lists) → ∥ Sane (world d l) ∥₁ → ∥ Sane (bare d) ∥₁
   sane_bare d l h = ∥∥₁_map h (sane_off d l)
 
-  -- Pause and resume.
-  module _ (d d' : Desk B) where
-    pub paused_lent : bare d' ≡ (pause_call (bare d)).world → (l : Lists) → world d' l ≡ (pause_call (world d l)).world
-    paused_lent e l = ap (λ w. relent w l) e ∙ by d.common.paused
-      where
-        by : (p : Bool) → relent (cond p (untouched (bare d)) (untouched (paused_as true (bare d)))).world l ≡ (cond p (untouched (world d l)) (untouched (paused_as true (world d l)))).world
-        by true = refl
-        by false = refl
+  -- A pause that begins or ends.
+  abbrev pub pausing : Bool → Desk B → Desk B
+  pausing p d = record {
+    name = d.name;
+    helpers = d.helpers;
+    sizes = d.sizes;
+    common = record { number = d.common.number; flag = d.common.flag; paused = p; queue = d.common.queue };
+    seats = d.seats;
+    bodies = d.bodies;
+    used = d.used;
+  }
 
-    pub paused_sane : bare d' ≡ (pause_call (bare d)).world → ∥ Sane (bare d) ∥₁ → ∥ Sane (bare d') ∥₁
-    paused_sane e h = ∥∥₁_map h (λ i. subst (λ w. Sane w) (sym e) (sane_pause (bare d) i))
-
-    pub resumed_lent : (name : ℕ) → bare d' ≡ (resume_call (bare d) name).world → (l : Lists) → world d' l ≡ (resume_call (world d l) name).world
-    resumed_lent name e l = ap (λ w. relent w l) e ∙ by (eqb name d.name) d.common.paused
-      where
-        by : (b p : Bool) → relent (cond b (cond p (untouched (paused_as false (bare d))) (untouched (bare d))) (untouched (bare d))).world l ≡ (cond b (cond p (untouched (paused_as false (world d l))) (untouched (world d l))) (untouched (world d l))).world
-        by true true = refl
-        by true false = refl
-        by false p = refl
-
-    pub resumed_sane : (name : ℕ) → bare d' ≡ (resume_call (bare d) name).world → ∥ Sane (bare d) ∥₁ → ∥ Sane (bare d') ∥₁
-    resumed_sane name e h = ∥∥₁_map h (λ i. subst (λ w. Sane w) (sym e) (sane_resume (bare d) name i))
+  pub sane_pausing : (p : Bool) (d : Desk B) → ∥ Sane (bare d) ∥₁ → ∥ Sane (bare (pausing p d)) ∥₁
+  sane_pausing p d h = ∥∥₁_map h by
+    where
+      by : Sane (bare d) → Sane (bare (pausing p d))
+      by i = record { sized = i.sized; all_seated = i.all_seated; all_bodies = i.all_bodies; used_within = i.used_within; below = i.below; above = i.above; short_queue = i.short_queue; fair = i.fair }
 
   -- Seat and step.
   module _ (m : Ghosts B) (d d' : Desk B) where

@@ -1,11 +1,15 @@
 -- The word of the seats under way, seat by seat, and its ones.
-use Rattle.std.proofs.Common.{◌≡◌, ℕ, zero, suc, ◌+◌, ◌*◌, ◌/◌, ◌%◌, ◌^◌, ◌<◌, ◌≤◌, Bool, true, false, cond, List, [], ◌∷◌, length, get_or, drop, Some, None, Option, refl, ap, ◌∙◌, arith, pow_pos}
+use Rattle.std.proofs.Common.{◌≡◌, ℕ, zero, suc, ◌+◌, ◌*◌, ◌/◌, ◌%◌, ◌^◌, ◌<◌, ◌≤◌, Bool, true, false, cond, List, [], ◌∷◌, length, reverse, bit_or, Some, None, Option, refl, ap, ◌∙◌, arith, pow_pos}
+use Rattle.std.specs.List.{fold}
+use Rattle.std.proofs.lemmas.Grind.{common_steps}
+use Rattle.std.proofs.lemmas.List.{reverse-append}
+use Rattle.std.proofs.lemmas.List.Sums.{fold-append}
 use native.Mathlib.Nat.{pow-succ'}
 use lib.Count.{ones, ones_in, ones_step}
 use Rattle.lane.specs.declared.seated.Seated.{Seated}
 use Rattle.book.specs.Questions.{in_hand, seat_bit, seat_word, seat_count}
 
-pub bit_one : (s : Option Seated) → seat_bit s ≤ 1
+bit_one : (s : Option Seated) → seat_bit s ≤ 1
 bit_one None = omega arith
 bit_one (Some s) = by (in_hand s.phase)
   where
@@ -18,22 +22,17 @@ below n [] h = pow_pos n
 below zero (s ∷ l) h = absurd (omega arith)
 below (suc n) (s ∷ l) h = let z = below n l (omega arith) in let e = pow-succ' 2 n in omega (arith, bit_one s)
 
-drop_short : (l : List (Option Seated)) (i n : ℕ) → length l ≤ n → length (drop i l) ≤ n
-drop_short l zero n h = h
-drop_short [] (suc i) n h = h
-drop_short (s ∷ l) (suc i) n h = drop_short l i n (omega arith)
+-- The word that a fold from the last seat makes. Its ones and a seat's bit share no place.
+one_more : (w b : ℕ) → w < 2 ^ 8 → b ≤ 1 → bit_or ((w * 2 ^ 1) % 2 ^ 32) b ≡ b + 2 * w
+one_more w b h k = grind (arith, common_steps)
 
-pub word_small : (l : List (Option Seated)) (i : ℕ) → length l ≤ 9 → seat_word (drop i l) < 512
-word_small l i h = below 9 (drop i l) (drop_short l i 9 h)
-
-pub word_next : (l : List (Option Seated)) (i : ℕ) → i < length l → seat_word (drop i l) ≡ seat_bit (get_or l i None) + 2 * seat_word (drop (suc i) l)
-word_next [] i h = absurd (omega arith)
-word_next (s ∷ l) zero h = refl
-word_next (s ∷ l) (suc i) h = word_next l i (omega arith)
-
-pub word_none : (l : List (Option Seated)) → 0 ≡ seat_word (drop (length l) l)
-word_none [] = refl
-word_none (s ∷ l) = word_none l
+pub word_folded : (l : List (Option Seated)) → length l ≤ 9 → fold (λ w s. bit_or ((w * 2 ^ 1) % 2 ^ 32) (seat_bit s)) 0 (reverse l) ≡ seat_word l
+word_folded [] h = refl
+word_folded (s ∷ l) h =
+    ap (λ z. fold (λ w s. bit_or ((w * 2 ^ 1) % 2 ^ 32) (seat_bit s)) 0 z) (reverse-append (s ∷ []) l)
+    ∙ fold-append (λ w s. bit_or ((w * 2 ^ 1) % 2 ^ 32) (seat_bit s)) 0 (reverse l) (s ∷ [])
+    ∙ ap (λ w. bit_or ((w * 2 ^ 1) % 2 ^ 32) (seat_bit s)) (word_folded l (omega arith))
+    ∙ one_more (seat_word l) (seat_bit s) (below 8 l (omega arith)) (bit_one s)
 
 ones_none : ones 0 ≡ 0
 unfolding ones ones_in

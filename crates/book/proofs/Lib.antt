@@ -7,4 +7,3 @@ pub mod Keeps
 pub mod Laying
 pub mod Planning
 pub mod Reaching
-pub mod Zeros

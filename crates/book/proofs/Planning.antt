@@ -1,9 +1,9 @@
 -- A plan of the code is the step that the calls are defined by.
-use Rattle.std.proofs.Common.{◌≡◌, ℕ, ◌≤◌, Bool, true, false, cond, ◌&&◌, ltb, List, length, get_or, drop, Some, None, Ok, Err, Option, Result, sym, refl, ap, ◌∙◌, arith, length-take}
+use Rattle.std.proofs.Common.{◌≡◌, ℕ, ◌≤◌, Bool, true, false, cond, ◌&&◌, ltb, List, length, get_or, drop, Some, None, Ok, Err, Option, sym, refl, ap, ◌∙◌, arith, length-take}
 use Rattle.body.specs.declared.body.Body.{Ghosts}
 use Rattle.lane.specs.declared.phase.Phase.{Phase}
 use Rattle.lane.specs.declared.phase.Phase.TheVariants.{Reserve, MasterLook, Take, MasterRun, Put, Begin, Run, Check, Wait, Look, Prevalidate, Swap, Validate, Mark, Cell, Release, LetGo, Quit, Leave}
-use Rattle.lane.specs.declared.refusal.StepRefusal.{StepRefusal}
+use Rattle.std.specs.Option.{ok_or}
 use Rattle.lane.specs.declared.refusal.StepRefusal.TheVariants.{Lists as Lists-refused}
 use Rattle.lane.specs.declared.seated.Seated.{Seated}
 use Rattle.lane.specs.declared.step.Step.{Step}
@@ -60,18 +60,14 @@ module _ {B : Type 0} (m : Ghosts B) (c : Common) (l : Lists) (b : B) (k : ℕ) 
   pub planned_none : there (length l.cells.now) (entry_of (work_with (tt {0}) s R W) s.phase) ≡ false → None ≡ planned m c l b k s
   planned_none t = ap {B = Option Ready} (λ x. cond x (Some (record { seated = s; step = step_at m (shared_of c l.cells.now l.marks.now) k (work_with b s (stretch l.reads.now (reads_from k) s.reads) (stretch l.writes.now (writes_from k) s.writes)) s.phase; kind = m.KIND })) None) (sym t ∙ works)
 
--- A plan as an answer.
-abbrev pub as_answer : Option Ready → Result Ready StepRefusal
-as_answer None = Err Lists-refused
-as_answer (Some r) = Ok r
-
+-- A plan, or else the refusal of the lists, is what the seat is to do.
 module _ {B : Type 0} (m : Ghosts B) (d : Desk B) (l : Lists) (k : ℕ) where
   abbrev w : World B
   w = world d l
 
-  pub ready_is : (s : Seated) (b : B) → ltb d.helpers k ≡ false → get_or d.seats k None ≡ Some s → get_or d.bodies k None ≡ Some b → same_sizes w ≡ true → as_answer (planned m d.common l b k s) ≡ ready_of m w k
+  pub ready_is : (s : Seated) (b : B) → ltb d.helpers k ≡ false → get_or d.seats k None ≡ Some s → get_or d.bodies k None ≡ Some b → same_sizes w ≡ true → ok_or {T = Ready} (planned m d.common l b k s) Lists-refused ≡ ready_of m w k
   ready_is s b h at has lent = rw (h, at, has, lent) (by (there (length l.cells.now) (entry_of (work_of w k s b) s.phase)))
     where
-      by : (t : Bool) → as_answer (cond t (Some (record { seated = s; step = step_now m w k s b; kind = m.KIND })) None) ≡ cond (true && t) (Ok (record { seated = s; step = step_now m w k s b; kind = m.KIND })) (Err Lists-refused)
+      by : (t : Bool) → ok_or {T = Ready} (cond t (Some (record { seated = s; step = step_now m w k s b; kind = m.KIND })) None) Lists-refused ≡ cond (true && t) (Ok (record { seated = s; step = step_now m w k s b; kind = m.KIND })) (Err Lists-refused)
       by true = refl
       by false = refl

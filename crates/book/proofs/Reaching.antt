@@ -1,6 +1,6 @@
 -- No body at a seat ever names a cell that the book has not: seat refuses one that might, and no telling changes how far a
 -- body reaches.
-use Rattle.std.proofs.Common.{◌≡◌, ℕ, zero, suc, ◌≤◌, Bool, true, false, cond, eqb, ltb, List, [], ◌∷◌, get_or, set, Some, None, Option, sym, refl, subst, arith}
+use Rattle.std.proofs.Common.{◌≡◌, ℕ, zero, suc, ◌≤◌, ltb, List, [], ◌∷◌, get_or, set, Some, None, Option, sym, refl, subst, arith}
 use mathlib.Core.Logic.{∥∥₁_elim, ∥∥₁_map}
 use native.Mathlib.Bridge.{le_prop}
 use Rattle.std.proofs.lemmas.Bool.{cond_both}
@@ -12,7 +12,7 @@ use Rattle.lane.specs.declared.refusal.SeatRefusal.{SeatRefusal}
 use Rattle.lane.specs.declared.seated.Seated.{Seated}
 use Rattle.lane.specs.declared.told.Told.{Told}
 use Rattle.lane.specs.declared.told.Told.TheVariants.{Nothing, Restarted, Handed, Taken}
-use Rattle.lane.specs.Calls.{After, Opened, open_world, seat_by, seat_call, seat_refusal, can_step, step_by, step_call, paused_as, pause_call, resume_call, untouched}
+use Rattle.lane.specs.Calls.{After, Opened, open_world, seat_by, seat_call, seat_refusal, can_step, step_by, step_call}
 use Rattle.lane.specs.Effects.{body_after}
 use Rattle.lane.specs.Narrow.{IsNarrow}
 use Rattle.lane.specs.Sane.{Sane}
@@ -50,21 +50,6 @@ module _ {B : Type 0} (m : Ghosts B) where
       by (Some r) e = h
       by None e = λ j. at_set w.sizes.cells w.bodies k j (Some b) (accepted m w k y b e).reaches (h j)
 
-  pause_reaches : (w : World B) → Reaching w → Reaching (pause_call w).world
-  pause_reaches w h = by w.shared.paused
-    where
-      by : (p : Bool) → Reaching (cond p (untouched w) (untouched (paused_as true w))).world
-      by true = h
-      by false = h
-
-  resume_reaches : (w : World B) (name : ℕ) → Reaching w → Reaching (resume_call w name).world
-  resume_reaches w name h = by (eqb name w.name) w.shared.paused
-    where
-      by : (b p : Bool) → Reaching (cond b (cond p (untouched (paused_as false w)) (untouched w)) (untouched w)).world
-      by true true = h
-      by true false = h
-      by false p = h
-
   module _ (law : Laws m) where
     reach_after : (t : Told) (b : B) → m.reach (body_after m t b) ≡ m.reach b
     reach_after Nothing b = refl
@@ -99,12 +84,6 @@ module _ {B : Type 0} (m : Ghosts B) where
 
     pub stepped_within : Laws m → (l l' : Lists) (k : ℕ) → world d' l' ≡ (step_call m (world d l) k).world → ∥ Reaching (bare d) ∥₁ → ∥ Reaching (bare d') ∥₁
     stepped_within law l l' k e h = leads (world d l) (world d' l') _ e (step_reaches law (world d l) k) h
-
-    pub paused_within : bare d' ≡ (pause_call (bare d)).world → ∥ Reaching (bare d) ∥₁ → ∥ Reaching (bare d') ∥₁
-    paused_within e h = leads (bare d) (bare d') _ e (pause_reaches (bare d)) h
-
-    pub resumed_within : (name : ℕ) → bare d' ≡ (resume_call (bare d) name).world → ∥ Reaching (bare d) ∥₁ → ∥ Reaching (bare d') ∥₁
-    resumed_within name e h = leads (bare d) (bare d') _ e (resume_reaches (bare d) name) h
 
   pub opened_within : (o : Opened) (d : Desk B) (l : Lists) → world d l ≡ open_world o → ∥ Reaching (bare d) ∥₁
   opened_within o d l e = ∣ subst (λ (w : World B). Reaching w) (sym e) (λ k. none k _ (getD_none 9 k)) ∣₁

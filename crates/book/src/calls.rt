@@ -13,7 +13,7 @@ ghost use Rattle.book.specs.Seatings.{seat_answer};
 
 use super::book::Book;
 use super::lists::Lists;
-use super::opening::{clear, fresh, refusal};
+use super::opening::Terms;
 use super::refused::SeatRefused;
 use super::ticket::{ResumeRefusal, Ticket};
 use body::Body;
@@ -29,23 +29,31 @@ impl<B: Body + Drop> Book<B> {
     ) -> Result<Book<B>, OpenRefusal>
         ensures { OpensBook B.Body name helpers number lists.old result lists.new }
     {
-        match refusal(lists, name, helpers, number) {
-            Some(refusal) => Err(refusal),
-            None => {
-                let desk = fresh(lists, name, helpers, number);
-                clear(lists.marks);
-                Ok(Book { desk })
-            }
-        }
+        let terms = Terms {
+            name,
+            helpers,
+            number,
+        };
+        terms.admit(lists)?;
+        let desk = terms.desk(lists);
+        lists.marks.fill(0);
+        Ok(Book { desk })
     }
 
-    // Seats a transaction. A body that is refused comes back.
+    // Seats a transaction. A body that is refused comes back. The way comes as a number, since a number of no way is one of
+    // the reasons to refuse.
     pub fn seat(&mut self, seat: u32, way: u32, tag: u32, body: B) -> Result<(), SeatRefused<B>>
         ensures answer { (l : Lent) → result ≡ seat_answer body (seat_refusal B.Body (book_world self.old l) seat way body) }
         ensures after { (l : Lent) → book_world self.new l ≡ (seat_call B.Body (book_world self.old l) seat way tag body).world }
         ensures law { (l : Lent) → KeepsLaw B.Body (book_world self.old l) (seat_call B.Body (book_world self.old l) seat way tag body) (book_world self.new l) }
     {
-        self.desk.seat(seat, way, tag, body)
+        match self.admit(seat, way, &body) {
+            Ok(admitted) => {
+                self.desk.place(seat, admitted, tag, body);
+                Ok(())
+            }
+            Err(refusal) => Err(SeatRefused { refusal, body }),
+        }
     }
 
     // One atomic step of a seat.
@@ -56,7 +64,9 @@ impl<B: Body + Drop> Book<B> {
         ensures tells { Tells B.Body (step_call B.Body (book_world self.old lists.old) seat).moment.call self.old.desk.bodies self.new.desk.bodies }
         ensures answers { (o : Opening) (h : History B) → Ran B.Body o h (book_world self.old lists.old) → Answered B.Body (step_call B.Body (book_world self.old lists.old) seat).moment.call self.old.desk.bodies }
     {
-        self.desk.step(lists, seat)
+        let ready = self.ready(lists, seat)?;
+        self.desk.act(lists, seat, ready);
+        Ok(ready.step.answer)
     }
 
     // Gives a ticket, unless a pause stands.
@@ -65,12 +75,14 @@ impl<B: Body + Drop> Book<B> {
         ensures after { (l : Lent) → book_world self.new l ≡ (pause_call (book_world self.old l)).world }
         ensures law { (l : Lent) → KeepsLaw B.Body (book_world self.old l) (pause_call (book_world self.old l)) (book_world self.new l) }
     {
-        let book = self.desk.name;
-        if self.desk.pause() {
-            Err(PauseRefusal)
-        } else {
-            Ok(Ticket { book, owed: true })
+        if self.desk.common.paused {
+            return Err(PauseRefusal);
         }
+        self.desk.common.paused = true;
+        Ok(Ticket {
+            book: self.desk.name,
+            owed: true,
+        })
     }
 
     // Lifts the pause. A ticket of another book comes back; any other is spent.
@@ -79,17 +91,15 @@ impl<B: Body + Drop> Book<B> {
         ensures after { (l : Lent) → book_world self.new l ≡ (resume_call (book_world self.old l) ticket.book).world }
         ensures law { (l : Lent) → KeepsLaw B.Body (book_world self.old l) (resume_call (book_world self.old l) ticket.book) (book_world self.new l) }
     {
-        let own = ticket.book == self.desk.name;
-        let paused = self.desk.resume(ticket.book);
-        if !own {
+        if ticket.book != self.desk.name {
             return Err(ResumeRefusal::OtherBook(ticket));
         }
         ticket.owed = false;
-        if paused {
-            Ok(())
-        } else {
-            Err(ResumeRefusal::NotPaused)
+        if !self.desk.common.paused {
+            return Err(ResumeRefusal::NotPaused);
         }
+        self.desk.common.paused = false;
+        Ok(())
     }
 }
 

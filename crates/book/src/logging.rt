@@ -4,6 +4,7 @@ ghost use Rattle.lane.specs.Logs.{laid, place_by, used_with};
 ghost use Rattle.lane.specs.Worlds.{reads_from, reads_laid, reads_used, stretch, writes_from, writes_laid, writes_used};
 ghost use Rattle.book.specs.Views.{ReadsFit, WritesFit};
 
+use super::limits::{MOST_READS, MOST_WRITES};
 use lane::{LogChange, Seated, Written};
 use logs::Entry;
 
@@ -15,7 +16,13 @@ pub(crate) fn log_read(reads: &mut [u32], seat: u32, seated: Seated, change: Log
 {
     match change {
         LogChange::Emptied => 0,
-        LogChange::Noted(cell) => enter(reads, 64 * (seat as usize - 1), 64, seated.reads, cell),
+        LogChange::Noted(cell) => enter(
+            reads,
+            MOST_READS * (seat as usize - 1),
+            MOST_READS,
+            seated.reads,
+            cell,
+        ),
         _ => seated.reads,
     }
 }
@@ -30,7 +37,13 @@ pub(crate) fn log_write(writes: &mut [Written], seat: u32, seated: Seated, chang
         LogChange::Emptied => 0,
         LogChange::Entered(cell, amount) => {
             let entry = Written { cell, amount };
-            enter(writes, 32 * (seat as usize - 1), 32, seated.writes, entry)
+            enter(
+                writes,
+                MOST_WRITES * (seat as usize - 1),
+                MOST_WRITES,
+                seated.writes,
+                entry,
+            )
         }
         _ => seated.writes,
     }

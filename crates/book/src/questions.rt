@@ -58,13 +58,10 @@ fn seat_word(seats: &[Option<Seated>]) -> u32
     requires { length seats.now ≤ 9 }
     ensures { result ≡ seat_word seats.now }
 {
-    let mut word: u32 = 0;
-    let mut i = seats.len();
-    while i > 0 {
-        i -= 1;
-        word = bit(seats[i]) + 2 * word;
-    }
-    word
+    seats
+        .iter()
+        .rev()
+        .fold(0, |word, seat| word << 1 | bit(*seat))
 }
 
 fn bit(seat: Option<Seated>) -> u32

@@ -2,14 +2,15 @@
 ghost use Rattle.std.specs.Prelude.{◌≡◌, ◌+◌, ◌<◌, ◌≤◌, ◌&&◌, length, None, slice_index_or};
 ghost use Rattle.lane.specs.Calls.{entry_of, same_sizes, there};
 ghost use Rattle.lane.specs.Narrow.{IsNarrow};
-ghost use Rattle.lane.specs.Sane.{Sane};
 ghost use Rattle.lane.specs.Worlds.{reads_from, stretch, writes_from};
-ghost use Rattle.book.specs.Reaching.{AllReachWithin};
+ghost use Rattle.book.specs.Books.{book_world};
 ghost use Rattle.book.specs.Views.{if_there, planned, ready_of, work_with, world};
 
+use super::book::Book;
 use super::common::Common;
 use super::deciding::{Sight, decide};
 use super::desk::Desk;
+use super::limits::{MOST_READS, MOST_WRITES};
 use super::lists::Lists;
 use super::ready::Ready;
 use body::Body;
@@ -28,28 +29,20 @@ impl<B> Desk<B> {
     }
 }
 
-impl<B: Body> Desk<B> {
+impl<B: Body> Book<B> {
     pub(crate) fn ready(&self, lists: &Lists<'_>, seat: u32) -> Result<Ready, StepRefusal>
-        requires sane { ∥ Sane (world self.now lists.now) ∥₁ }
-        requires within { ∥ AllReachWithin B.Body.reach self.now.sizes.cells self.now.bodies ∥₁ }
-        ensures { result ≡ ready_of B.Body (world self.now lists.now) seat }
+        ensures { result ≡ ready_of B.Body (book_world self.now lists.now) seat }
     {
-        if seat > self.helpers {
+        let desk = &self.desk;
+        if seat > desk.helpers {
             return Err(StepRefusal::NoSeat);
         }
-        let Some(seated) = self.seated_at(seat) else {
-            return Err(StepRefusal::Idle);
-        };
-        let Some(body) = self.body_at(seat) else {
-            return Err(StepRefusal::Idle);
-        };
-        if !self.lent_whole(lists) {
+        let seated = desk.seated_at(seat).ok_or(StepRefusal::Idle)?;
+        let body = desk.body_at(seat).ok_or(StepRefusal::Idle)?;
+        if !desk.lent_whole(lists) {
             return Err(StepRefusal::Lists);
         }
-        match plan(&self.common, lists, body, seat, seated) {
-            Some(ready) => Ok(ready),
-            None => Err(StepRefusal::Lists),
-        }
+        plan(&desk.common, lists, body, seat, seated).ok_or(StepRefusal::Lists)
     }
 }
 
@@ -58,22 +51,14 @@ impl<B> Desk<B> {
     pub(crate) fn seated_at(&self, seat: u32) -> Option<Seated>
         ensures { result ≡ slice_index_or self.now.seats seat None }
     {
-        let at = seat as usize;
-        let seats = &self.seats[..];
-        if at < seats.len() { seats[at] } else { None }
+        self.seats.get(seat as usize).copied().flatten()
     }
 
     // The body at a seat, of its transaction or of its last one.
     pub(crate) fn body_at(&self, seat: u32) -> Option<&B>
         ensures { if_there (λ x. x.now) result ≡ slice_index_or self.now.bodies seat None }
     {
-        let at = seat as usize;
-        let bodies = &self.bodies[..];
-        if at < bodies.len() {
-            bodies[at].as_ref()
-        } else {
-            None
-        }
+        self.bodies.get(seat as usize)?.as_ref()
     }
 }
 
@@ -94,8 +79,8 @@ fn plan<B: Body>(
     ensures { result ≡ planned B.Body common.now lists.now body.now seat seated }
 {
     let helper = seat.saturating_sub(1) as usize;
-    let reads = part(&*lists.reads, 64 * helper, seated.reads);
-    let writes = part(&*lists.writes, 32 * helper, seated.writes);
+    let reads = part(&*lists.reads, MOST_READS * helper, seated.reads);
+    let writes = part(&*lists.writes, MOST_WRITES * helper, seated.writes);
     if !entry_there(lists.cells.len(), reads, writes, seated) {
         return None;
     }
