@@ -6,7 +6,7 @@ ghost use Rattle.posts.specs.Posts.{refusal_line};
 use journal::Record;
 use std::alloc::{AllocError, Global};
 
-// The lines of the first so many records.
+// The lines of the first so many records. A slice of them would want a proof that the book uses no more than there are.
 pub(crate) fn print_lines(
     heap: Global,
     journal: &[Record],

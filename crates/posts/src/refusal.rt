@@ -6,7 +6,7 @@ ghost use Rattle.posts.specs.Refusals.{booking_refusal_number};
 use book::SeatRefused;
 use lane::{OpenRefusal, SeatRefusal, StepRefusal};
 
-#[derive(Clone, Copy, Debug, PartialEq)]
+#[derive(Clone, Copy)]
 pub(crate) enum BookingRefusal {
     Open(OpenRefusal),
     Seat(SeatRefusal),
