@@ -19,6 +19,7 @@ pub fn line(
     let kept = journal.get(i).ok_or(LineRefusal::NoRecord)?;
     let space = buffer.len().checked_sub(place).ok_or(LineRefusal::NoPlace)?;
     let text = kept.text();
+    // Tried with `get_mut` in place of lengths: what the buffer is after a `None` (`returns-in_err-space`) stayed open.
     if text.len() > space {
         return Err(LineRefusal::NoSpace);
     }

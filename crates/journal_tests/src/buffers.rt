@@ -1,4 +1,5 @@
 // What the tables share: a line is written into a buffer of marker bytes, and the whole buffer is compared.
+// Handle and heap go side by side: a helper may not take the runtime, and a bound for both would make its vectors generic.
 use journal::{LineRefusal, Record, line};
 use std::alloc::{AllocError, Global};
 use std::process::Abort;

@@ -33,7 +33,7 @@ const THIRD: &str = "C\t7\t1\t2\t40\t2\n";
 #[test]
 fn each_record(rt: HostRuntime) -> Result<(), Fail> {
     let heap = rt.alloc();
-    for (i, text) in [(0, FIRST), (1, SECOND), (2, THIRD)] {
+    for (i, text) in [FIRST, SECOND, THIRD].into_iter().enumerate() {
         for (before, behind) in [(0, 0), (0, 1), (1, 0), (1, 1), (0, 100), (100, 0), (64, 37)] {
             writes(&rt, heap, &JOURNAL, i, text, before, behind)?;
         }

@@ -12,6 +12,6 @@ const MOST_KEPT: usize = MOST_BYTES + 1;
 fn main(rt: HostRuntime) -> anyhow::Result<()> {
     let text = read_at_most(rt.alloc(), &mut rt.stdin(), MOST_KEPT)?;
     let out = post(rt.alloc(), text)?;
-    rt.stdout().write_all(out.as_slice())?;
+    rt.stdout().write_all(out.as_bytes())?;
     Ok(())
 }

@@ -4,5 +4,6 @@
 mod booking;
 mod posting;
 mod printing;
+mod refusal;
 
 pub use posting::post;

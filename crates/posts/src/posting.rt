@@ -1,5 +1,5 @@
 // Posts an import text: checks it, books it and prints the journal, or prints why not.
-ghost use Rattle.std.specs.Prelude.{IfOk};
+ghost use Rattle.std.specs.Prelude.{IfOk, string_bytes};
 ghost use Rattle.posts.specs.Posts.{Posts};
 
 use super::booking::book_import;
@@ -26,8 +26,8 @@ const UNUSED: Record = Record::Change {
 
 // The contract says what is answered for a text that the check refuses, and that every call returns. Of a text that is
 // admitted it does not yet say which lines are answered; the table in posts_tests stands in.
-pub fn post(heap: Global, text: Vec<u8>) -> Result<Vec<u8>, AllocError>
-    ensures { IfOk result (λ out. Posts text.items out.items) }
+pub fn post(heap: Global, text: Vec<u8>) -> Result<String, AllocError>
+    ensures { IfOk result (λ out. Posts text.items (string_bytes out)) }
 {
     match check(text) {
         Ok(checked) => post_import(heap, Import::new(checked)),
@@ -36,7 +36,7 @@ pub fn post(heap: Global, text: Vec<u8>) -> Result<Vec<u8>, AllocError>
 }
 
 // Books an import on cells that hold 0.
-fn post_import(heap: Global, import: Import) -> Result<Vec<u8>, AllocError> {
+fn post_import(heap: Global, import: Import) -> Result<String, AllocError> {
     let mut cells = [0i64; CELLS];
     let mut marks = [0u32; MARKS];
     let mut reads: [u32; 0] = [];
@@ -50,6 +50,7 @@ fn post_import(heap: Global, import: Import) -> Result<Vec<u8>, AllocError> {
         journal: &mut journal,
     };
     let booked = book_import(&mut lists, import);
+    // The lists are taken apart, since they may not be let go whole.
     let Lists {
         cells: _,
         marks: _,
@@ -59,6 +60,6 @@ fn post_import(heap: Global, import: Import) -> Result<Vec<u8>, AllocError> {
     } = lists;
     match booked {
         Ok(used) => print_lines(heap, journal, used),
-        Err(number) => print_refusal(heap, 0, number),
+        Err(refusal) => print_refusal(heap, 0, refusal.number()),
     }
 }

@@ -1,22 +1,13 @@
 // What is posted for a text: the lines of the journal, or the line of a refusal.
 use posts::post;
-use std::alloc::{AllocError, Global};
+use std::alloc::Global;
 use std::process::Abort;
 use std::test::Fail;
 
-fn posts_as(rt: &impl Abort, heap: Global, text: &[u8], out: &str) -> Result<(), Fail> {
-    let posted = post(heap, text.to_vec(heap)?)?;
-    assert!(rt; posted.as_slice() == out.as_bytes(), "{}", out);
+fn posts_as(rt: &impl Abort, heap: Global, text: &str, out: &str) -> Result<(), Fail> {
+    let posted = post(heap, text.as_bytes().to_vec(heap)?)?;
+    assert_eq!(rt; posted.as_str(), out);
     Ok(())
-}
-
-// A header, then so many posts of nothing to cell 0.
-fn text_of(heap: Global, posts: u32) -> Result<Vec<u8>, AllocError> {
-    let mut text = b"H\tDKK\n".to_vec(heap)?;
-    for _ in 0..posts {
-        text.extend_from_slice(b"P\t0\t0.00\n")?;
-    }
-    Ok(text)
 }
 
 #[test]
@@ -41,14 +32,16 @@ fn texts(rt: HostRuntime) -> Result<(), Fail> {
         ("H\tDKK\nP\t3\t12.5\n", "X\t2\t66\n"),
     ];
     for (text, out) in table {
-        posts_as(&rt, rt.alloc(), text.as_bytes(), out)?;
+        posts_as(&rt, rt.alloc(), text, out)?;
     }
     Ok(())
 }
 
-// 500 posts have a length of 1,000, and need a record more than there are.
+// 500 posts of nothing to cell 0 have a length of 1,000, and need a record more than there are.
 #[test]
 fn too_long(rt: HostRuntime) -> Result<(), Fail> {
     let heap = rt.alloc();
-    posts_as(&rt, heap, text_of(heap, 500)?.as_slice(), "X\t0\t15\n")
+    let posts = "P\t0\t0.00\n".repeat(heap, 500)?;
+    let text = format!(in heap; "H\tDKK\n{posts}")?;
+    posts_as(&rt, heap, text.as_str(), "X\t0\t15\n")
 }

@@ -1,0 +1,51 @@
+// Why an import that the check admits is not booked.
+ghost use Rattle.std.specs.Prelude.{◌≡◌};
+ghost use Rattle.posts.specs.declared.refusal.BookingRefusal.TheVariants.{Open, Seat, Step};
+ghost use Rattle.posts.specs.Refusals.{booking_refusal_number};
+
+use book::SeatRefused;
+use lane::{OpenRefusal, SeatRefusal, StepRefusal};
+
+#[derive(Clone, Copy)]
+pub(crate) enum BookingRefusal {
+    Open(OpenRefusal),
+    Seat(SeatRefusal),
+    Step(StepRefusal),
+}
+
+impl BookingRefusal {
+    pub(crate) fn number(self) -> u32
+        ensures { result ≡ booking_refusal_number self }
+    {
+        match self {
+            BookingRefusal::Open(refusal) => refusal.number(),
+            BookingRefusal::Seat(refusal) => refusal.number(),
+            BookingRefusal::Step(refusal) => refusal.number(),
+        }
+    }
+}
+
+impl From<OpenRefusal> for BookingRefusal {
+    ghost from_gives = { λ refusal r. r ≡ Open refusal };
+
+    fn from(refusal: OpenRefusal) -> BookingRefusal {
+        BookingRefusal::Open(refusal)
+    }
+}
+
+// The body that comes back is let go.
+impl<B: Drop> From<SeatRefused<B>> for BookingRefusal {
+    ghost from_gives = { λ refused r. r ≡ Seat refused.refusal };
+
+    fn from(refused: SeatRefused<B>) -> BookingRefusal {
+        BookingRefusal::Seat(refused.refusal)
+    }
+}
+
+impl From<StepRefusal> for BookingRefusal {
+    ghost from_gives = { λ refusal r. r ≡ Step refusal };
+
+    fn from(refusal: StepRefusal) -> BookingRefusal {
+        BookingRefusal::Step(refusal)
+    }
+}
