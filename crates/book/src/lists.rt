@@ -2,6 +2,7 @@
 use journal::Record;
 use lane::Written;
 
+#[derive(Drop)]
 pub struct Lists<'a> {
     pub cells: &'a mut [i64],
     pub marks: &'a mut [u32],

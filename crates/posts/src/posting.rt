@@ -49,17 +49,8 @@ fn post_import(heap: Global, import: Import) -> Result<String, AllocError> {
         writes: &mut writes,
         journal: &mut journal,
     };
-    let booked = book_import(&mut lists, import);
-    // The lists are taken apart, since they may not be let go whole.
-    let Lists {
-        cells: _,
-        marks: _,
-        reads: _,
-        writes: _,
-        journal,
-    } = lists;
-    match booked {
-        Ok(used) => print_lines(heap, journal, used),
+    match book_import(&mut lists, import) {
+        Ok(used) => print_lines(heap, &journal, used),
         Err(refusal) => print_refusal(heap, 0, refusal.number()),
     }
 }
