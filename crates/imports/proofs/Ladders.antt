@@ -10,18 +10,9 @@ use Rattle.imports.specs.declared.fault.LineFault.TheVariants as faults
 use Rattle.imports.specs.Lines.{Fields, heading, post, transfer, parted, Whole, HasFields, IsPosting, BadCell, OneCell, AmountField, First, row_faults}
 use Rattle.imports.proofs.Cuts.{same_fields}
 
--- a line without such fields has the fault of its letter
-pub no_fields : (k : ℕ) (bytes : List ℕ) → ((f : Fields) → Whole f → bytes ≡ parted f → ⊥) → First (row_faults k bytes) faults.Letter
-no_fields k bytes none = inl (λ h. none h.0 h.1 h.2, refl)
-
 -- the amount's field is the writing of an amount within the limit
 abbrev pub SoundAmount : ℕ → List ℕ → Type 0
 SoundAmount k field = (z : _) × Amount k z × (field ≡ amount_text k z)
-
-at_amount : {P Q : List ℕ → Type 0} (f : Fields) → ((field : List ℕ) → P field → Q field) → AmountField P f → AmountField Q f
-at_amount (heading c) h p = p
-at_amount (post c a) h p = h a p
-at_amount (transfer c o a) h p = h a p
 
 not_amount : {P Q : List ℕ → Type 0} (f : Fields) → ((field : List ℕ) → P field → Q field → ⊥) → AmountField P f → AmountField Q f → ⊥
 not_amount (heading c) h p q = p
@@ -36,15 +27,9 @@ module _ (k : ℕ) (bytes : List ℕ) (f : Fields) (whole : Whole f) (is : bytes
   hasnt : (P : Fields → Type 0) → (P f → ⊥) → HasFields bytes P → ⊥
   hasnt P n h = n (subst P (same_fields h.0 f h.1 whole (sym h.2 ∙ is)) h.3)
 
-  pub letter_fault : (IsPosting f → ⊥) → First (row_faults k bytes) faults.Letter
-  letter_fault n = inl (hasnt IsPosting n, refl)
-
   module _ (posting : IsPosting f) where
     lettered : (HasFields bytes IsPosting → ⊥) → ⊥
     lettered n = n (has IsPosting posting)
-
-    pub cell_fault : BadCell f → First (row_faults k bytes) faults.Cell
-    cell_fault bad = inr (lettered, inl (has BadCell bad, refl))
 
     module _ (cells : BadCell f → ⊥) where
       pub twice_fault : OneCell f → First (row_faults k bytes) faults.Twice

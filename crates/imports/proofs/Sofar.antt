@@ -58,16 +58,6 @@ pub line_some : (k : ℕ) (p : Posting) → 0 < length (line k p)
 line_some k p = omega (arith, length-append (row k p) (10 ∷ []))
 
 module _ (text code : List ℕ) where
-  pub begun : (t : Totals) → IsCode code → text ≡ (header code ++ 10 ∷ []) ++ drop 6 text → t.count ≡ 0 → t.reach ≡ 0 → t.length ≡ 0 → Sofar text code (drop 6 text) t
-  begun t is cut c r l = record {
-    ps = [];
-    currency = is;
-    ranges = tt;
-    sofar = cut ∙ ap (λ s. s ++ drop 6 text) (sym (append-nil (header code ++ 10 ∷ [])));
-    few = omega (arith, length-drop 6 text);
-    totals = (c, r, l);
-  }
-
   module _ (rest : List ℕ) (used : ℕ) (t u : Totals) (p : Posting) (old : Sofar text code rest t) (begins : Begins (places code) rest p used) (adds : Adds t p u) where
     pub one_more : Sofar text code (drop used rest) u
     one_more = record {

@@ -31,11 +31,7 @@ module _ (k : ℕ) (text : List ℕ) (at : ℕ) where
   rows_front : (x : Posting) (s : List ℕ) → InRange k x → rows (line k x ++ s) ≡ posting_row k x ∷ rows s
   rows_front x s range = ap (λ l. rows (l ++ s)) (sym (append-nil (line k x))) ∙ rows_lines k (x ∷ []) s (range, tt)
 
-  -- no posting begins where the text ends, or where the first line is faulty
-  pub none_at_end : length text ≤ at → (p : Posting) (n : ℕ) → Begins k (drop at text) p n → ⊥
-  none_at_end end p n b =
-      omega (arith, ap length b.2, length-append (line k p) (drop n (drop at text)), length-drop at text, line_some k p)
-
+  -- no posting begins where the first line is faulty
   pub none_at_fault : k ≤ 2 → (fault : LineFault) → FirstRowFault (row_faults k) (drop at text) fault → (p : Posting) (n : ℕ) → Begins k (drop at text) p n → ⊥
   none_at_fault few fault bad p n b =
       let lines = sym bad.2 ∙ ap rows b.2 ∙ rows_front p (drop n (drop at text)) b.0 in

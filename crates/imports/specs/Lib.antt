@@ -3,6 +3,7 @@ pub mod Cursors
 pub mod Faults
 pub mod Lines
 pub mod Numbers
+pub mod Printed
 pub mod Reading
 pub mod Texts
 pub mod Totals

@@ -1,10 +1,13 @@
 // What can be wrong with an import: an amount's fault stands whole inside its line's, and that inside the import's.
-ghost use Rattle.std.specs.Prelude.{◌≡◌};
+ghost use Rattle.std.specs.Prelude.{◌≡◌, Some};
 ghost use Rattle.imports.specs.declared.fault.ImportFault.{ImportFault};
 ghost use Rattle.imports.specs.declared.fault.LineFault.{LineFault};
 ghost use Rattle.imports.specs.Numbers.{import_fault_line, import_fault_number, line_fault_number};
+ghost use Rattle.imports.specs.Printed.{fault_text};
 
 use money::AmountFault;
+use std::error::Error;
+use std::fmt;
 
 #[derive(Clone, Copy, Debug, PartialEq, Eq)]
 pub enum LineFault {
@@ -87,3 +90,16 @@ impl From<FaultyLine> for ImportFault {
         ImportFault::Line(named)
     }
 }
+
+// The line and the number, parted by a tab.
+impl fmt::Display for ImportFault {
+    ghost output = { λ fault. Some (fault_text fault) };
+
+    fn fmt<W: fmt::Write>(&self, f: &mut fmt::Formatter<W>) -> fmt::Result {
+        let line = self.line();
+        let number = self.number();
+        write!(f, "{line}\t{number}")
+    }
+}
+
+impl Error for ImportFault {}

@@ -125,10 +125,7 @@ fn codes(rt: HostRuntime) {
         ("AA1", None),
     ];
     for (letters, places) in table {
-        let found = match Code::new(letters.as_bytes()) {
-            Some(code) => Some(code.places()),
-            None => None,
-        };
+        let found = Code::new(letters.as_bytes()).map(Code::places);
         assert_eq!(rt; found, places, "{letters}");
     }
 }

@@ -1,9 +1,11 @@
 // Texts with each refusal at its first and last place, and the texts beside them that are admitted.
 use super::texts::{admitted, refused_as};
+use imports::Totals;
 use std::alloc::Global;
 use std::process::Abort;
 use std::test::Fail;
 
+// A row is a text, its faulty line and the fault's number, which is what these tables are about.
 fn refuse_each(rt: &impl Abort, heap: Global, table: &[(&str, u32, u32)]) -> Result<(), Fail> {
     for (text, line, number) in table.iter().copied() {
         refused_as(rt, heap, text.as_bytes(), line, number, text)?;
@@ -118,31 +120,64 @@ fn first_of_two_faults(rt: HostRuntime) -> Result<(), Fail> {
 #[test]
 fn admits(rt: HostRuntime) -> Result<(), Fail> {
     let heap = rt.alloc();
-    admitted(&rt, heap, b"H\tDKK\n", 0, 0, 0)?;
-    admitted(&rt, heap, b"H\tDKK\nP\t0\t0.00\n", 1, 1, 2)?;
-    admitted(&rt, heap, b"H\tDKK\nP\t4095\t-0.01\n", 1, 4096, 2)?;
+    admitted(
+        &rt,
+        heap,
+        b"H\tDKK\n",
+        Totals {
+            count: 0,
+            reach: 0,
+            length: 0,
+        },
+    )?;
+    admitted(
+        &rt,
+        heap,
+        b"H\tDKK\nP\t0\t0.00\n",
+        Totals {
+            count: 1,
+            reach: 1,
+            length: 2,
+        },
+    )?;
+    admitted(
+        &rt,
+        heap,
+        b"H\tDKK\nP\t4095\t-0.01\n",
+        Totals {
+            count: 1,
+            reach: 4096,
+            length: 2,
+        },
+    )?;
     admitted(
         &rt,
         heap,
         b"H\tDKK\nT\t0\t4095\t10000000000000.00\n",
-        1,
-        4096,
-        4,
+        Totals {
+            count: 1,
+            reach: 4096,
+            length: 4,
+        },
     )?;
     admitted(
         &rt,
         heap,
         b"H\tDKK\nT\t4095\t0\t-10000000000000.00\n",
-        1,
-        4096,
-        4,
+        Totals {
+            count: 1,
+            reach: 4096,
+            length: 4,
+        },
     )?;
     admitted(
         &rt,
         heap,
         b"H\tJPY\nP\t7\t999999999999999\nT\t3\t9\t-1\n",
-        2,
-        10,
-        6,
+        Totals {
+            count: 2,
+            reach: 10,
+            length: 6,
+        },
     )
 }

@@ -1,5 +1,6 @@
 // Texts and lines of the greatest size, and one byte more.
 use super::texts::{admitted, refused};
+use imports::Totals;
 use std::alloc::{AllocError, Global};
 use std::test::Fail;
 
@@ -19,7 +20,7 @@ fn text_of(heap: Global, nines: u32, tens: u32) -> Result<Vec<u8>, AllocError> {
 fn padded(heap: Global, front: &str, digits: u32, end: &str) -> Result<Vec<u8>, AllocError> {
     let mut text = front.as_bytes().to_vec(heap)?;
     for _ in 0..digits {
-        text.push(49)?;
+        text.push(b'1')?;
     }
     text.extend_from_slice(end.as_bytes())?;
     Ok(text)
@@ -39,7 +40,16 @@ fn greatest(rt: HostRuntime) -> Result<(), Fail> {
     // 6 + 3638 * 9 + 2 * 10 bytes
     let most = text_of(heap, 3638, 2)?;
     assert_eq!(rt; most.len(), 32_768);
-    admitted(&rt, heap, most.as_slice(), 3640, 11, 7280)?;
+    admitted(
+        &rt,
+        heap,
+        most.as_slice(),
+        Totals {
+            count: 3640,
+            reach: 11,
+            length: 7280,
+        },
+    )?;
     // 6 + 3637 * 9 + 3 * 10 bytes
     let more = text_of(heap, 3637, 3)?;
     assert_eq!(rt; more.len(), 32_769);

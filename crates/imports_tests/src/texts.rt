@@ -1,5 +1,5 @@
 // What the tables share: a text is checked, and its fault or its postings are compared.
-use imports::check;
+use imports::{Totals, check};
 use std::alloc::Global;
 use std::process::Abort;
 use std::test::Fail;
@@ -33,30 +33,20 @@ pub(crate) fn refused_as(
     }
 }
 
-// The text is admitted, with so many postings, this reach and this length.
+// The text is admitted, and its postings come to these totals.
 pub(crate) fn admitted(
     rt: &impl Abort,
     heap: Global,
     text: &[u8],
-    count: u32,
-    reach: u32,
-    length: u32,
+    totals: Totals,
 ) -> Result<(), Fail> {
     match check(text.to_vec(heap)?) {
         Ok(import) => {
-            assert_eq!(rt;
-                (import.count(), import.reach(), import.length()),
-                (count, reach, length)
-            );
+            assert_eq!(rt; import.count(), totals.count);
+            assert_eq!(rt; import.reach(), totals.reach);
+            assert_eq!(rt; import.length(), totals.length);
             Ok(())
         }
-        Err(fault) => {
-            assert_eq!(rt;
-                (fault.line(), fault.number()),
-                (0, 0),
-                "the text is refused"
-            );
-            Ok(())
-        }
+        Err(fault) => Err(Fail::new(format_args!("the text is refused: {fault}"))),
     }
 }

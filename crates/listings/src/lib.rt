@@ -1,12 +1,12 @@
 // Lists an import text: a line for each posting and one for what they come to, or one line that names the fault.
 #![tactic(auto)]
 
-ghost use Rattle.std.specs.Prelude.{◌≡◌, List, ◌++◌, IfOk, string_bytes, OnOk};
+ghost use Rattle.std.specs.Prelude.{◌≡◌, List, IfOk, string_bytes};
 ghost use Rattle.imports.specs.declared.posting.Posting.{Posting};
 ghost use Rattle.imports.specs.Checks.{Tells};
-ghost use Rattle.listings.specs.Listings.{Lists, listed, posting_line, refusal_line};
+ghost use Rattle.listings.specs.Listings.{Lists, listed};
 
-use imports::{Checked, ImportFault, Posting, check};
+use imports::{Checked, check};
 use std::alloc::Global;
 use std::fmt;
 
@@ -15,7 +15,7 @@ pub fn listing(heap: Global, text: Vec<u8>) -> Result<String, fmt::Error>
 {
     match check(text) {
         Ok(import) => list(heap, &import),
-        Err(fault) => refuse(heap, fault),
+        Err(fault) => Ok(format!(in heap; "X\t{fault}\n")?),
     }
 }
 
@@ -25,32 +25,14 @@ fn list(heap: Global, import: &Checked) -> Result<String, fmt::Error>
 {
     let mut out = String::new(heap);
     for posting in import.postings() {
-        list_posting(&mut out, posting)?;
+        write!(out, "{posting}\n")?;
     }
-    let count = import.count();
-    let reach = import.reach();
-    let length = import.length();
-    write!(out, "L\t{count}\t{reach}\t{length}\n")?;
-    Ok(out)
-}
-
-fn list_posting(out: &mut String, posting: Posting) -> fmt::Result
-    ensures { OnOk result (string_bytes out.new ≡ string_bytes out.old ++ posting_line posting) }
-{
-    match posting {
-        Posting::Post { cell, amount } => write!(out, "P\t{cell}\t{amount}\n")?,
-        Posting::Transfer { from, to, amount } => write!(out, "T\t{from}\t{to}\t{amount}\n")?,
-    }
-    Ok(())
-}
-
-// The line for a refused text.
-fn refuse(heap: Global, fault: ImportFault) -> Result<String, fmt::Error>
-    ensures { IfOk result (λ out. string_bytes out ≡ refusal_line fault) }
-{
-    let mut out = String::new(heap);
-    let line = fault.line();
-    let number = fault.number();
-    write!(out, "X\t{line}\t{number}\n")?;
+    write!(
+        out,
+        "L\t{}\t{}\t{}\n",
+        import.count(),
+        import.reach(),
+        import.length()
+    )?;
     Ok(out)
 }

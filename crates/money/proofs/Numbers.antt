@@ -20,9 +20,6 @@ module _ (n : ℕ) (small : n < bound) where
   pub all_digits : AllDigits 10 (decimal n)
   all_digits = (decimal_is_IsNumeral n (omega arith)).0.1
 
-  pub digits_back : digits_value 10 (decimal n) ≡ n
-  digits_back = (decimal_is_IsNumeral n (omega arith)).1
-
   pub no_zero : get_or (decimal n) 0 0 ≡ 48 → length (decimal n) ≡ 1
   no_zero e =
       ⊎_elim

@@ -70,9 +70,6 @@ module _ (k n : ℕ) (pos : 0 < k) where
   units_length =
       omega (arith, ap length units_parts, length-append (decimal (n / 10 ^ k)) (46 ∷ padded k n), length_padded k n)
 
-  pub units_long : k + 1 ≤ length (units_text k n)
-  units_long = omega (arith, units_length)
-
   module _ (p : ℕ) (s : List ℕ) (is : s ≡ units_text k n) (at : length s ≡ p + k + 1) where
     front : length (decimal (n / 10 ^ k)) ≡ p
     front = omega (arith, units_length, at, ap length is)
@@ -122,9 +119,6 @@ units_same (suc k) n m p q e =
     omega (arith, part, power, value_padded (suc k) n, value_padded (suc k) m)
 
 -- the first byte is a digit
-pub units_some : (k n : ℕ) → n / 10 ^ k < bound → 0 < length (units_text k n)
-units_some k n small = omega (arith, length-append (decimal (n / 10 ^ k)) (fraction k n), some_digits (n / 10 ^ k) small)
-
 pub units_first : (k n : ℕ) → n / 10 ^ k < bound → IsInRange 48 57 (get_or (units_text k n) 0 0)
 units_first k n small =
     let some = some_digits (n / 10 ^ k) small in
