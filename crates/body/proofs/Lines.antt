@@ -1,5 +1,5 @@
 -- The next line of an import's text. Assumes nothing.
-use Rattle.std.proofs.Common.{◌≡◌, ℕ, ◌+◌, ◌-◌, ◌<◌, ◌≤◌, List, [], ◌∷◌, ◌++◌, length, take, drop, Some, None, vec_items, Option, sym, refl, ap, ◌∙◌, subst, ⊎_elim, arith, length-append, length-drop}
+use Rattle.std.proofs.Common.{◌≡◌, ℕ, ◌+◌, ◌-◌, ◌<◌, ◌≤◌, List, [], ◌∷◌, ◌++◌, length, take, drop, ℤ, Some, None, vec_items, Option, sym, refl, ap, ◌∙◌, subst, ⊎_elim, arith, length-append, length-drop}
 use mathlib.Core.HLevel.{×_prop}
 use mathlib.Core.Logic.{∥∥₁_elim}
 use native.Mathlib.Nat.{ℕ_set}
@@ -23,8 +23,9 @@ use Rattle.imports.specs.Totals.{Left, Gives}
 use Rattle.imports.proofs.Taking.{ahead, takes_gives, left_same}
 use Rattle.imports.proofs.Sofar.{line_some}
 use Rattle.body.specs.declared.importing.Import.{Import}
+use Rattle.body.specs.declared.importing.ImportStep.{ImportStep}
 use Rattle.body.specs.declared.importing.ImportStep.TheVariants as steps
-use Rattle.body.specs.Imports.{LineRead, LineReads, took_next, next_line}
+use Rattle.body.specs.Imports.{LineRead, LineReads, after_step, entered, import_answered, import_at, took_next, next_line}
 use Rattle.body.specs.Reading.{postings, postings_told, place}
 use Rattle.body.specs.Imported.{same_import}
 
@@ -80,6 +81,14 @@ line_read b s t r text code at takes =
     read : (ps : List Posting) → drop b.taken (postings b.checked) ≡ ps → Gives ps r (Ahead t) → LineReads b.checked b.taken ps r t.at
     read [] e g = g.0
     read (q ∷ qs) e g = (g.0, behind q qs e r g.0 takes)
+
+-- an import that goes on to what follows its step, or past its line
+pub goes_on : (b : Import) (s : ImportStep) (x : ℤ) → b.step ≡ s → entered b (after_step s x) ≡ import_answered b s x
+goes_on b (steps.Read p) x e = refl
+goes_on b (steps.ReadOther f t a h) x e = refl
+goes_on b (steps.WriteBoth f l t g) x e = ap (import_at b) (sym e)
+goes_on b (steps.Write c g) x e = ap (import_at b) (sym e)
+goes_on b steps.Done x e = ap (import_at b) (sym e)
 
 -- a posting was taken
 pub took_some : (b was : Import) (p : Posting) (after : ℕ) → LineRead was (Some p) after → b.checked ≡ was.checked → b.taken ≡ was.taken + 1 → b.at ≡ after → b.step ≡ steps.Read p → b.unposted ≡ was.unposted → b ≡ next_line was.checked was.taken was.unposted

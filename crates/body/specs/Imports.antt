@@ -106,6 +106,14 @@ abbrev pub after_first : Posting → ℤ → Option ImportStep
 after_first (Post cell amount) x = after_post cell amount x
 after_first (Transfer from to amount) x = Some (steps.ReadOther from to amount x)
 
+-- What follows an amount that the step is told; a step that reads nothing stays.
+abbrev pub after_step : ImportStep → ℤ → Option ImportStep
+after_step (steps.Read p) x = after_first p x
+after_step (steps.ReadOther from to amount held) x = after_transfer from to amount held x
+after_step (steps.WriteBoth from left to grown) x = Some (steps.WriteBoth from left to grown)
+after_step (steps.Write cell grown) x = Some (steps.Write cell grown)
+after_step steps.Done x = Some steps.Done
+
 -- After an amount that was read.
 abbrev pub import_answered : Import → ImportStep → ℤ → Import
 import_answered b (steps.Read p) x = entered b (after_first p x)

@@ -1,6 +1,6 @@
 // An import is a body: it books its postings one after the other, reading its text line by line.
 ghost use Rattle.std.specs.Prelude.{◌≡◌};
-ghost use Rattle.body.specs.Imports.{after_first, after_post, after_transfer, entered, import_answered, import_asks, import_begin, import_left, import_len, import_reach, import_step_asks, import_taken, import_told, import_written, next_line, skipped};
+ghost use Rattle.body.specs.Imports.{after_step, import_answered, import_asks, import_begin, import_left, import_len, import_reach, import_step_asks, import_taken, import_told, import_written, next_line, skipped};
 ghost use Rattle.body.specs.Imported.{import_lawful};
 
 use super::body::Body;
@@ -67,21 +67,13 @@ impl Body for Import {
 }
 
 impl Import {
-    // Goes on after an amount that was read.
+    // Goes on after an amount that was read: to what follows it, or past the line.
     fn read(&mut self, amount: i64)
         ensures { self.new ≡ import_answered self.old self.old.step amount }
     {
-        match self.step {
-            ImportStep::Read { posting } => self.enter(ImportStep::after_first(posting, amount)),
-            ImportStep::ReadOther {
-                from,
-                to,
-                amount: moved,
-                held,
-            } => {
-                self.enter(ImportStep::after_transfer(from, to, moved, held, amount));
-            }
-            _ => {}
+        match self.step.after(amount) {
+            Some(step) => self.step = step,
+            None => self.skip_line(),
         }
     }
 
@@ -91,20 +83,10 @@ impl Import {
     {
         match self.step {
             ImportStep::WriteBoth { to, grown, .. } => {
-                self.enter(Some(ImportStep::Write { cell: to, grown }));
+                self.step = ImportStep::Write { cell: to, grown };
             }
             ImportStep::Write { .. } => self.take_line(),
             _ => {}
-        }
-    }
-
-    // Goes on to the writes of the posting, or past its line.
-    fn enter(&mut self, step: Option<ImportStep>)
-        ensures { self.new ≡ entered self.old step }
-    {
-        match step {
-            Some(step) => self.step = step,
-            None => self.skip_line(),
         }
     }
 
@@ -133,48 +115,49 @@ impl Import {
 }
 
 impl ImportStep {
-    // What follows the first amount that a posting is given.
-    fn after_first(posting: Posting, held: i64) -> Option<ImportStep>
-        ensures { result ≡ after_first posting held }
+    // What follows when the step is told an amount; nothing where an amount is beyond the limit.
+    fn after(self, told: i64) -> Option<ImportStep>
+        ensures { result ≡ after_step self told }
     {
-        match posting {
-            Posting::Post { cell, amount } => ImportStep::after_post(cell, amount, held),
-            Posting::Transfer { from, to, amount } => Some(ImportStep::ReadOther {
+        match self {
+            ImportStep::Read {
+                posting: Posting::Post { cell, amount },
+            } => {
+                let grown = told.saturating_add(amount);
+                if is_within(told) && is_within(grown) {
+                    Some(ImportStep::Write { cell, grown })
+                } else {
+                    None
+                }
+            }
+            ImportStep::Read {
+                posting: Posting::Transfer { from, to, amount },
+            } => Some(ImportStep::ReadOther {
+                from,
+                to,
+                amount,
+                held: told,
+            }),
+            ImportStep::ReadOther {
                 from,
                 to,
                 amount,
                 held,
-            }),
-        }
-    }
-
-    // The write of a post on a cell that holds `held`.
-    fn after_post(cell: u16, amount: i64, held: i64) -> Option<ImportStep>
-        ensures { result ≡ after_post cell amount held }
-    {
-        let grown = held.saturating_add(amount);
-        if is_within(held) && is_within(grown) {
-            Some(ImportStep::Write { cell, grown })
-        } else {
-            None
-        }
-    }
-
-    // The writes of a transfer between cells that hold `held` and `other`.
-    fn after_transfer(from: u16, to: u16, amount: i64, held: i64, other: i64) -> Option<ImportStep>
-        ensures { result ≡ after_transfer from to amount held other }
-    {
-        let left = held.saturating_sub(amount);
-        let grown = other.saturating_add(amount);
-        if is_within(held) && is_within(other) && is_within(left) && is_within(grown) {
-            Some(ImportStep::WriteBoth {
-                from,
-                left,
-                to,
-                grown,
-            })
-        } else {
-            None
+            } => {
+                let left = held.saturating_sub(amount);
+                let grown = told.saturating_add(amount);
+                if is_within(held) && is_within(told) && is_within(left) && is_within(grown) {
+                    Some(ImportStep::WriteBoth {
+                        from,
+                        left,
+                        to,
+                        grown,
+                    })
+                } else {
+                    None
+                }
+            }
+            _ => Some(self),
         }
     }
 

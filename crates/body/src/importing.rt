@@ -7,7 +7,8 @@ use imports::{Checked, Posting};
 #[derive(Drop)]
 pub struct Import {
     pub(crate) checked: Checked,
-    // How many postings were taken from the text, and where the next one begins.
+    // How many postings were taken from the text, and where the next one begins. They are no struct of their own, since what
+    // ties them, `placed`, names the text too.
     pub(crate) taken: usize,
     pub(crate) at: usize,
     pub(crate) step: ImportStep,
@@ -22,7 +23,7 @@ pub enum ImportStep {
     Read {
         posting: Posting,
     },
-    // To read the second cell of a transfer; the first held this amount.
+    // To read the second cell of a transfer; the first held this amount. The posting itself would leave open that it is one.
     ReadOther {
         from: u16,
         to: u16,

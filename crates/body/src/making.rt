@@ -70,7 +70,8 @@ impl ScriptRefusal {
     }
 }
 
-// The reach of some steps, if each is sound.
+// The reach of some steps, if each is sound. A `try_fold` was tried in place of the `for`: its `returns`, which has to know the
+// steps behind a `None`, stayed open.
 fn reach_of_steps(steps: &[ScriptStep]) -> Option<u32>
     ensures { MatchOption result (AllByRecursion SoundStep steps.now → ⊥) (λ n. AllByRecursion SoundStep steps.now × (n ≡ steps_reach steps.now)) }
 {

@@ -1,12 +1,34 @@
 // One of two kinds does as the one that it holds.
-use super::alone::does;
+use super::alone::{Measures, Run, does, measured};
 use super::limits::{BEYOND, LIMIT};
 use super::scripts::script;
 use body::Either::{Left, Right};
 use body::ScriptStep::{Carry, Put, Read};
 use body::{Body, Either, Request, Script, Total};
 use std::alloc::Global;
+use std::process::Abort;
 use std::test::Fail;
+
+// A body with this reach and this length does so on each row's cells.
+fn holds<B: Body>(
+    rt: &impl Abort,
+    heap: Global,
+    body: &mut B,
+    reach: usize,
+    length: usize,
+    table: &[Run<'_>],
+) -> Result<(), Fail> {
+    let measures = Measures {
+        reach,
+        length,
+        kind: 4,
+    };
+    measured(rt, body, measures);
+    for run in table.iter().copied() {
+        does(rt, heap, body, run, "one of two kinds")?;
+    }
+    Ok(())
+}
 
 // Of cells 0 and 1 into cell 3.
 fn left() -> Result<Either<Total, Script>, Fail> {
@@ -23,58 +45,47 @@ fn right(heap: Global) -> Result<Either<Total, Script>, Fail> {
     Ok(Right(script(heap, &steps)?))
 }
 
+const SUMMED: Run<'static> = Run {
+    cells: &[5, 6, 7, 8],
+    handed: &[5, 6],
+    left: &[5, 6, 7, 11],
+};
+
 #[test]
 fn held(rt: HostRuntime) -> Result<(), Fail> {
     let heap = rt.alloc();
-    let mut total = left()?;
-    assert_eq!(rt; total.reach_of(), 4);
-    assert_eq!(rt; total.length_of(), 3);
-    assert_eq!(rt; total.kind_of(), 4);
-    does(
-        &rt,
-        heap,
-        &mut total,
-        &[5, 6, 7, 8],
-        &[5, 6],
-        &[5, 6, 7, 11],
-    )?;
-    does(
-        &rt,
-        heap,
-        &mut total,
-        &[BEYOND, 6, 7, 8],
-        &[BEYOND],
-        &[BEYOND, 6, 7, 8],
-    )?;
-    does(
-        &rt,
-        heap,
-        &mut total,
-        &[LIMIT, 1, 7, 8],
-        &[LIMIT, 1],
-        &[LIMIT, 1, 7, 8],
-    )?;
-    let mut steps = right(heap)?;
-    assert_eq!(rt; steps.reach_of(), 3);
-    assert_eq!(rt; steps.length_of(), 3);
-    assert_eq!(rt; steps.kind_of(), 4);
-    does(&rt, heap, &mut steps, &[5, 6, 7, 8], &[5], &[5, 4, 5, 8])?;
-    does(
-        &rt,
-        heap,
-        &mut steps,
-        &[LIMIT, 6, 7, 8],
-        &[LIMIT],
-        &[LIMIT, 4, LIMIT, 8],
-    )?;
-    does(
-        &rt,
-        heap,
-        &mut steps,
-        &[BEYOND, 6, 7, 8],
-        &[BEYOND],
-        &[BEYOND, 6, 7, 8],
-    )
+    let summed = [
+        SUMMED,
+        Run {
+            cells: &[BEYOND, 6, 7, 8],
+            handed: &[BEYOND],
+            left: &[BEYOND, 6, 7, 8],
+        },
+        Run {
+            cells: &[LIMIT, 1, 7, 8],
+            handed: &[LIMIT, 1],
+            left: &[LIMIT, 1, 7, 8],
+        },
+    ];
+    holds(&rt, heap, &mut left()?, 4, 3, &summed)?;
+    let carried = [
+        Run {
+            cells: &[5, 6, 7, 8],
+            handed: &[5],
+            left: &[5, 4, 5, 8],
+        },
+        Run {
+            cells: &[LIMIT, 6, 7, 8],
+            handed: &[LIMIT],
+            left: &[LIMIT, 4, LIMIT, 8],
+        },
+        Run {
+            cells: &[BEYOND, 6, 7, 8],
+            handed: &[BEYOND],
+            left: &[BEYOND, 6, 7, 8],
+        },
+    ];
+    holds(&rt, heap, &mut right(heap)?, 3, 3, &carried)
 }
 
 // An either in an either.
@@ -82,29 +93,21 @@ fn held(rt: HostRuntime) -> Result<(), Fail> {
 fn nested(rt: HostRuntime) -> Result<(), Fail> {
     let heap = rt.alloc();
     let mut inner: Either<Script, Either<Total, Script>> = Right(left()?);
-    assert_eq!(rt; inner.reach_of(), 4);
-    assert_eq!(rt; inner.length_of(), 3);
-    assert_eq!(rt; inner.kind_of(), 4);
-    does(
-        &rt,
-        heap,
-        &mut inner,
-        &[5, 6, 7, 8],
-        &[5, 6],
-        &[5, 6, 7, 11],
-    )?;
-    let mut outer: Either<Script, Either<Total, Script>> = Left(script(
-        heap,
-        &[Carry { cell: 1 }],
-    )?);
-    assert_eq!(rt; outer.reach_of(), 2);
-    assert_eq!(rt; outer.length_of(), 1);
-    assert_eq!(rt; outer.kind_of(), 4);
-    does(&rt, heap, &mut outer, &[5, 6], &[], &[5, 0])?;
+    holds(&rt, heap, &mut inner, 4, 3, &[SUMMED])?;
+    let carries = script(heap, &[Carry { cell: 1 }])?;
+    let mut outer: Either<Script, Either<Total, Script>> = Left(carries);
+    let carried = Run {
+        cells: &[5, 6],
+        handed: &[],
+        left: &[5, 0],
+    };
+    holds(&rt, heap, &mut outer, 2, 1, &[carried])?;
     let mut none: Either<Script, Either<Total, Script>> = Right(Right(script(heap, &[])?));
-    assert_eq!(rt; none.reach_of(), 0);
-    assert_eq!(rt; none.length_of(), 0);
-    assert_eq!(rt; none.kind_of(), 4);
     assert_eq!(rt; none.request(), Request::End);
-    does(&rt, heap, &mut none, &[5, 6], &[], &[5, 6])
+    let untouched = Run {
+        cells: &[5, 6],
+        handed: &[],
+        left: &[5, 6],
+    };
+    holds(&rt, heap, &mut none, 0, 0, &[untouched])
 }

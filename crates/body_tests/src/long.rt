@@ -9,9 +9,7 @@ use std::test::Fail;
 fn run(rt: &impl Abort, heap: Global, lines: usize) -> Result<(), Fail> {
     let mut text = b"H\tDKK\n".to_vec(heap)?;
     for _ in 0..lines {
-        for byte in [b'T', 9, b'3', 9, b'7', 9, b'1', b'2', b'.', b'3', b'4', 10] {
-            text.push(byte)?;
-        }
+        text.extend_from_slice(b"T\t3\t7\t12.34\n")?;
     }
     match check_text(text) {
         Ok(checked) => {

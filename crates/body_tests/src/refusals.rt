@@ -2,7 +2,7 @@
 use super::limits::{BEYOND, LEAST, LIMIT, MOST};
 use body::ScriptRefusal::{BadStep, TooMany};
 use body::ScriptStep::{Carry, Put, Read};
-use body::{Script, ScriptRefusal, ScriptStep, Total, TotalRefusal};
+use body::{Script, ScriptStep, Total, TotalRefusal};
 use std::alloc::Global;
 use std::process::Abort;
 use std::test::Fail;
@@ -16,10 +16,9 @@ fn numbers(rt: HostRuntime) {
 
 // The number of the refusal, if there is one.
 fn total_number(first: u32, last: u32, target: u32) -> Option<u32> {
-    match Total::new(first, last, target) {
-        Ok(_) => None,
-        Err(refusal) => Some(refusal.number()),
-    }
+    Total::new(first, last, target)
+        .err()
+        .map(|refusal| refusal.number())
 }
 
 #[test]
@@ -34,7 +33,11 @@ fn totals(rt: HostRuntime) {
         (0, 1, 0),
     ];
     for (first, last, target) in made {
-        assert_eq!(rt; total_number(first, last, target), None);
+        assert_eq!(rt;
+            total_number(first, last, target),
+            None,
+            "{first} {last} {target}"
+        );
     }
     let refused = [
         // The range runs backward.
@@ -61,58 +64,52 @@ fn totals(rt: HostRuntime) {
         (4_294_967_295, 4_294_967_295, 4_294_967_295),
     ];
     for (first, last, target) in refused {
-        assert_eq!(rt; total_number(first, last, target), Some(70));
+        assert_eq!(rt;
+            total_number(first, last, target),
+            Some(70),
+            "{first} {last} {target}"
+        );
     }
 }
 
-// Makes a script of so many reads with this step among them, at this place.
-fn made_with(
-    heap: Global,
-    reads: usize,
-    place: usize,
-    step: ScriptStep,
-) -> Result<Result<Script, ScriptRefusal>, Fail> {
-    let mut steps = Vec::new(heap);
-    for i in 0..reads {
-        if i == place {
-            steps.push(step)?;
-        }
-        steps.push(Read { cell: 0 })?;
-    }
-    if place >= reads {
-        steps.push(step)?;
-    }
-    Ok(Script::new(steps))
-}
-
-// The number of the refusal, if there is one.
+// The number of the refusal of a script of so many reads with this step among them, at this place, if it is refused.
 fn script_number(
+    rt: &impl Abort,
     heap: Global,
     reads: usize,
     place: usize,
     step: ScriptStep,
 ) -> Result<Option<u32>, Fail> {
-    match made_with(heap, reads, place, step)? {
-        Ok(_) => Ok(None),
-        Err(refusal) => Ok(Some(refusal.number())),
-    }
+    let mut steps = vec![in heap; Read { cell: 0 }; reads]?;
+    assert!(rt; place <= steps.len());
+    steps.insert(place, step)?;
+    Ok(Script::new(steps).err().map(|refusal| refusal.number()))
 }
 
-// One sound or faulty step, alone, and in a script of 16 steps at its first, its middle and its last place.
+// One sound or faulty step, alone, and in a script of 16 steps at its first, its middle and its last place. A step too many is
+// answered first.
 fn one_step(
     rt: &impl Abort,
     heap: Global,
     step: ScriptStep,
     number: Option<u32>,
 ) -> Result<(), Fail> {
-    assert_eq!(rt; script_number(heap, 0, 0, step)?, number);
-    assert_eq!(rt; script_number(heap, 15, 0, step)?, number);
-    assert_eq!(rt; script_number(heap, 15, 7, step)?, number);
-    assert_eq!(rt; script_number(heap, 15, 15, step)?, number);
-    // A step too many is answered first.
-    assert_eq!(rt; script_number(heap, 16, 0, step)?, Some(71));
-    assert_eq!(rt; script_number(heap, 16, 16, step)?, Some(71));
-    assert_eq!(rt; script_number(heap, 40, 3, step)?, Some(71));
+    let table = [
+        (0, 0, number),
+        (15, 0, number),
+        (15, 7, number),
+        (15, 15, number),
+        (16, 0, Some(71)),
+        (16, 16, Some(71)),
+        (40, 3, Some(71)),
+    ];
+    for (reads, place, answer) in table {
+        assert_eq!(rt;
+            script_number(rt, heap, reads, place, step)?,
+            answer,
+            "{step:?} at {place} of {reads}"
+        );
+    }
     Ok(())
 }
 
@@ -129,9 +126,9 @@ fn cells(rt: HostRuntime) -> Result<(), Fail> {
         (4_294_967_295, Some(72)),
     ];
     for (cell, number) in table {
-        one_step(&rt, heap, Read { cell }, number)?;
-        one_step(&rt, heap, Put { cell, amount: 1 }, number)?;
-        one_step(&rt, heap, Carry { cell }, number)?;
+        for step in [Read { cell }, Put { cell, amount: 1 }, Carry { cell }] {
+            one_step(&rt, heap, step, number)?;
+        }
     }
     Ok(())
 }
@@ -150,9 +147,9 @@ fn amounts(rt: HostRuntime) -> Result<(), Fail> {
         (LEAST, Some(72)),
     ];
     for (amount, number) in table {
-        one_step(&rt, heap, Put { cell: 0, amount }, number)?;
-        one_step(&rt, heap, Put { cell: 4095, amount }, number)?;
-        one_step(&rt, heap, Put { cell: 4096, amount }, Some(72))?;
+        for (cell, answer) in [(0, number), (4095, number), (4096, Some(72))] {
+            one_step(&rt, heap, Put { cell, amount }, answer)?;
+        }
     }
     Ok(())
 }

@@ -1,8 +1,8 @@
 // What scripts do alone, and their reach and length.
-use super::alone::does;
-use super::limits::{BEYOND, LEAST, LIMIT, MOST};
+use super::alone::{Measures, Run, does, measured};
+use super::limits::{OUTSIDE, WITHIN};
 use body::ScriptStep::{Carry, Put, Read};
-use body::{Body, Script, ScriptStep};
+use body::{Script, ScriptStep};
 use std::alloc::Global;
 use std::process::Abort;
 use std::test::Fail;
@@ -11,189 +11,237 @@ pub(crate) fn script(heap: Global, steps: &[ScriptStep]) -> Result<Script, Fail>
     Ok(Script::new(steps.to_vec(heap)?)?)
 }
 
-// A script of these steps, on these cells.
+// A script of these steps does so.
 fn scripts(
     rt: &impl Abort,
     heap: Global,
     steps: &[ScriptStep],
-    cells: &[i64],
-    handed: &[i64],
-    left: &[i64],
+    run: Run<'_>,
+    name: &str,
 ) -> Result<(), Fail> {
-    does(rt, heap, &mut script(heap, steps)?, cells, handed, left)
+    does(rt, heap, &mut script(heap, steps)?, run, name)
 }
+
+const READ: ScriptStep = Read { cell: 0 };
+
+const OTHER: ScriptStep = Read { cell: 1 };
+
+const CARRY: ScriptStep = Carry { cell: 2 };
+
+const CARRY_BACK: ScriptStep = Carry { cell: 1 };
+
+const PUT_3: ScriptStep = Put { cell: 1, amount: 3 };
+
+const PUT_4: ScriptStep = Put { cell: 1, amount: 4 };
+
+const PUT_7: ScriptStep = Put { cell: 1, amount: 7 };
+
+struct Row {
+    name: &'static str,
+    steps: &'static [ScriptStep],
+    run: Run<'static>,
+}
+
+const ROWS: &[Row] = &[
+    Row {
+        name: "no step",
+        steps: &[],
+        run: Run {
+            cells: &[1, 2],
+            handed: &[],
+            left: &[1, 2],
+        },
+    },
+    Row {
+        name: "a read",
+        steps: &[READ],
+        run: Run {
+            cells: &[5, 6],
+            handed: &[5],
+            left: &[5, 6],
+        },
+    },
+    Row {
+        name: "a read of another cell",
+        steps: &[OTHER],
+        run: Run {
+            cells: &[5, 6],
+            handed: &[6],
+            left: &[5, 6],
+        },
+    },
+    Row {
+        name: "a put",
+        steps: &[PUT_7],
+        run: Run {
+            cells: &[5, 6],
+            handed: &[],
+            left: &[5, 7],
+        },
+    },
+    Row {
+        name: "0 is carried before any read",
+        steps: &[CARRY_BACK],
+        run: Run {
+            cells: &[5, 6],
+            handed: &[],
+            left: &[5, 0],
+        },
+    },
+    Row {
+        name: "0 is carried after a put",
+        steps: &[PUT_7, Carry { cell: 0 }],
+        run: Run {
+            cells: &[5, 6],
+            handed: &[],
+            left: &[0, 7],
+        },
+    },
+    Row {
+        name: "one cell read twice",
+        steps: &[READ, READ],
+        run: Run {
+            cells: &[5, 6],
+            handed: &[5, 5],
+            left: &[5, 6],
+        },
+    },
+    Row {
+        name: "a carry",
+        steps: &[READ, CARRY],
+        run: Run {
+            cells: &[5, 6, 7],
+            handed: &[5],
+            left: &[5, 6, 5],
+        },
+    },
+    Row {
+        name: "the amount read last, and not the first",
+        steps: &[READ, OTHER, CARRY],
+        run: Run {
+            cells: &[5, 6, 7],
+            handed: &[5, 6],
+            left: &[5, 6, 6],
+        },
+    },
+    Row {
+        name: "the amount read last, and not the highest",
+        steps: &[OTHER, READ, CARRY],
+        run: Run {
+            cells: &[5, 6, 7],
+            handed: &[6, 5],
+            left: &[5, 6, 5],
+        },
+    },
+    Row {
+        name: "a put is not a read",
+        steps: &[READ, PUT_3, CARRY],
+        run: Run {
+            cells: &[5, 6, 7],
+            handed: &[5],
+            left: &[5, 3, 5],
+        },
+    },
+    Row {
+        name: "what it wrote itself is read again",
+        steps: &[PUT_3, OTHER, CARRY],
+        run: Run {
+            cells: &[5, 6, 7],
+            handed: &[3],
+            left: &[5, 3, 3],
+        },
+    },
+    Row {
+        name: "the same amount is carried to two cells",
+        steps: &[READ, CARRY, CARRY_BACK],
+        run: Run {
+            cells: &[5, 6, 7],
+            handed: &[5],
+            left: &[5, 5, 5],
+        },
+    },
+    Row {
+        name: "0 at first, and then what was read",
+        steps: &[CARRY, READ, CARRY_BACK],
+        run: Run {
+            cells: &[5, 6, 7],
+            handed: &[5],
+            left: &[5, 5, 0],
+        },
+    },
+    Row {
+        name: "a read where it carried",
+        steps: &[READ, CARRY, Read { cell: 2 }],
+        run: Run {
+            cells: &[5, 6, 7],
+            handed: &[5, 5],
+            left: &[5, 6, 5],
+        },
+    },
+];
 
 #[test]
 fn steps(rt: HostRuntime) -> Result<(), Fail> {
-    let heap = rt.alloc();
-    scripts(&rt, heap, &[], &[1, 2], &[], &[1, 2])?;
-    scripts(&rt, heap, &[Read { cell: 0 }], &[5, 6], &[5], &[5, 6])?;
-    scripts(&rt, heap, &[Read { cell: 1 }], &[5, 6], &[6], &[5, 6])?;
-    let put = Put { cell: 1, amount: 7 };
-    scripts(&rt, heap, &[put], &[5, 6], &[], &[5, 7])?;
-    // Nothing was read before: 0 is carried.
-    scripts(&rt, heap, &[Carry { cell: 1 }], &[5, 6], &[], &[5, 0])?;
-    scripts(&rt, heap, &[put, Carry { cell: 0 }], &[5, 6], &[], &[0, 7])?;
-    // The same cell read twice.
-    scripts(
-        &rt,
-        heap,
-        &[Read { cell: 0 }, Read { cell: 0 }],
-        &[5, 6],
-        &[5, 5],
-        &[5, 6],
-    )
+    for row in ROWS {
+        scripts(&rt, rt.alloc(), row.steps, row.run, row.name)?;
+    }
+    Ok(())
 }
 
-#[test]
-fn carrying(rt: HostRuntime) -> Result<(), Fail> {
-    let heap = rt.alloc();
-    let read = Read { cell: 0 };
-    let other = Read { cell: 1 };
-    let carry = Carry { cell: 2 };
-    let put = Put { cell: 1, amount: 3 };
-    scripts(&rt, heap, &[read, carry], &[5, 6, 7], &[5], &[5, 6, 5])?;
-    // The amount read last, and not the first.
-    scripts(
-        &rt,
-        heap,
-        &[read, other, carry],
-        &[5, 6, 7],
-        &[5, 6],
-        &[5, 6, 6],
-    )?;
-    scripts(
-        &rt,
-        heap,
-        &[other, read, carry],
-        &[5, 6, 7],
-        &[6, 5],
-        &[5, 6, 5],
-    )?;
-    // A put is not a read.
-    scripts(&rt, heap, &[read, put, carry], &[5, 6, 7], &[5], &[5, 3, 5])?;
-    // What it wrote itself is read again.
-    scripts(
-        &rt,
-        heap,
-        &[put, other, carry],
-        &[5, 6, 7],
-        &[3],
-        &[5, 3, 3],
-    )?;
-    // The same amount is carried to two cells.
-    scripts(
-        &rt,
-        heap,
-        &[read, carry, Carry { cell: 1 }],
-        &[5, 6, 7],
-        &[5],
-        &[5, 5, 5],
-    )?;
-    // 0 at first, and then what was read.
-    scripts(
-        &rt,
-        heap,
-        &[carry, read, Carry { cell: 1 }],
-        &[5, 6, 7],
-        &[5],
-        &[5, 5, 0],
-    )?;
-    scripts(
-        &rt,
-        heap,
-        &[read, carry, Read { cell: 2 }],
-        &[5, 6, 7],
-        &[5, 5],
-        &[5, 6, 5],
-    )
-}
+// An amount within the limit is carried, and what follows is done: cell 1 gets this amount.
+const CARRIED: &[(&[ScriptStep], i64)] = &[(&[READ, CARRY], 6), (&[READ, CARRY, PUT_4], 4)];
 
-// Carried amounts at the limit, and beyond it.
+// An amount beyond the limit ends the script where it would be carried: what comes before is done, and what follows is not. Where
+// it is not carried it ends nothing. Cell 1 gets this amount.
+const CUT_SHORT: &[(&[ScriptStep], i64)] = &[
+    (&[READ, CARRY], 6),
+    (&[READ, CARRY, PUT_4], 6),
+    (&[READ, CARRY, OTHER], 6),
+    (&[READ, PUT_4, CARRY], 4),
+    (&[READ], 6),
+    (&[READ, PUT_4], 4),
+];
+
 #[test]
 fn carried_amounts(rt: HostRuntime) -> Result<(), Fail> {
-    let heap = rt.alloc();
-    let read = Read { cell: 0 };
-    let other = Read { cell: 1 };
-    let carry = Carry { cell: 2 };
-    let put = Put { cell: 1, amount: 4 };
-    for amount in [LIMIT, -LIMIT, LIMIT - 1, 1 - LIMIT, -1, 0] {
-        scripts(
-            &rt,
-            heap,
-            &[read, carry],
-            &[amount, 6, 7],
-            &[amount],
-            &[amount, 6, amount],
-        )?;
-        scripts(
-            &rt,
-            heap,
-            &[read, carry, put],
-            &[amount, 6, 7],
-            &[amount],
-            &[amount, 4, amount],
-        )?;
+    for amount in WITHIN {
+        for (steps, next) in CARRIED.iter().copied() {
+            let run = Run {
+                cells: &[amount, 6, 7],
+                handed: &[amount],
+                left: &[amount, next, amount],
+            };
+            scripts(&rt, rt.alloc(), steps, run, "carried")?;
+        }
     }
-    for amount in [BEYOND, -BEYOND, MOST, LEAST, LIMIT * 2, LIMIT * -2] {
-        scripts(
-            &rt,
-            heap,
-            &[read, carry],
-            &[amount, 6, 7],
-            &[amount],
-            &[amount, 6, 7],
-        )?;
-        // What follows the end is not done; what comes before it is.
-        scripts(
-            &rt,
-            heap,
-            &[read, carry, put],
-            &[amount, 6, 7],
-            &[amount],
-            &[amount, 6, 7],
-        )?;
-        scripts(
-            &rt,
-            heap,
-            &[read, carry, other],
-            &[amount, 6, 7],
-            &[amount],
-            &[amount, 6, 7],
-        )?;
-        scripts(
-            &rt,
-            heap,
-            &[read, put, carry],
-            &[amount, 6, 7],
-            &[amount],
-            &[amount, 4, 7],
-        )?;
-        // An amount that is not carried ends nothing.
-        scripts(
-            &rt,
-            heap,
-            &[read],
-            &[amount, 6, 7],
-            &[amount],
-            &[amount, 6, 7],
-        )?;
-        scripts(
-            &rt,
-            heap,
-            &[read, put],
-            &[amount, 6, 7],
-            &[amount],
-            &[amount, 4, 7],
-        )?;
-        scripts(
-            &rt,
-            heap,
-            &[read, other, carry],
-            &[amount, 6, 7],
-            &[amount, 6],
-            &[amount, 6, 6],
-        )?;
+    Ok(())
+}
+
+#[test]
+fn ending_amounts(rt: HostRuntime) -> Result<(), Fail> {
+    for amount in OUTSIDE {
+        for (steps, next) in CUT_SHORT.iter().copied() {
+            let run = Run {
+                cells: &[amount, 6, 7],
+                handed: &[amount],
+                left: &[amount, next, 7],
+            };
+            scripts(&rt, rt.alloc(), steps, run, "cut short")?;
+        }
+    }
+    Ok(())
+}
+
+// An amount beyond the limit that was not read last ends nothing.
+#[test]
+fn forgotten_amounts(rt: HostRuntime) -> Result<(), Fail> {
+    for amount in OUTSIDE {
+        let run = Run {
+            cells: &[amount, 6, 7],
+            handed: &[amount, 6],
+            left: &[amount, 6, 6],
+        };
+        scripts(&rt, rt.alloc(), &[READ, OTHER, CARRY], run, "forgotten")?;
     }
     Ok(())
 }
@@ -201,18 +249,21 @@ fn carried_amounts(rt: HostRuntime) -> Result<(), Fail> {
 // Amounts that are put, at the limit.
 #[test]
 fn put_amounts(rt: HostRuntime) -> Result<(), Fail> {
-    let heap = rt.alloc();
-    for amount in [LIMIT, -LIMIT, LIMIT - 1, 1 - LIMIT, 1, -1, 0] {
+    for amount in WITHIN {
         let put = Put { cell: 1, amount };
-        scripts(&rt, heap, &[put], &[5, 6], &[], &[5, amount])?;
-        scripts(
-            &rt,
-            heap,
-            &[put, Read { cell: 1 }, Carry { cell: 0 }],
-            &[5, 6],
-            &[amount],
-            &[amount, amount],
-        )?;
+        let run = Run {
+            cells: &[5, 6],
+            handed: &[],
+            left: &[5, amount],
+        };
+        scripts(&rt, rt.alloc(), &[put], run, "put")?;
+        let run = Run {
+            cells: &[5, 6],
+            handed: &[amount],
+            left: &[amount, amount],
+        };
+        let steps = [put, OTHER, Carry { cell: 0 }];
+        scripts(&rt, rt.alloc(), &steps, run, "put and carried")?;
     }
     Ok(())
 }
@@ -226,60 +277,53 @@ fn sixteen(rt: HostRuntime) -> Result<(), Fail> {
         steps.push(Read { cell })?;
         steps.push(Carry { cell: cell + 1 })?;
     }
-    let cells = [1, 2, 3, 4, 5, 6, 7, 8, 9, 10];
-    let handed = [1, 1, 1, 1, 1, 1, 1, 1];
-    let left = [1, 1, 1, 1, 1, 1, 1, 1, 1, 10];
     let mut body = script(heap, steps.as_slice())?;
-    assert_eq!(rt; body.length_of(), 16);
-    assert_eq!(rt; body.reach_of(), 9);
-    does(&rt, heap, &mut body, &cells, &handed, &left)
+    let measures = Measures {
+        reach: 9,
+        length: 16,
+        kind: 3,
+    };
+    measured(&rt, &mut body, measures);
+    let run = Run {
+        cells: &[1, 2, 3, 4, 5, 6, 7, 8, 9, 10],
+        handed: &[1, 1, 1, 1, 1, 1, 1, 1],
+        left: &[1, 1, 1, 1, 1, 1, 1, 1, 1, 10],
+    };
+    does(&rt, heap, &mut body, run, "sixteen steps")
 }
 
+const HIGH: ScriptStep = Put { cell: 7, amount: 1 };
+
+const TOP: ScriptStep = Put {
+    cell: 4095,
+    amount: 1,
+};
+
 // Steps, with the reach and the length of their script.
-fn measured(
-    rt: &impl Abort,
-    heap: Global,
-    steps: &[ScriptStep],
-    reach: usize,
-    length: usize,
-) -> Result<(), Fail> {
-    let mut body = script(heap, steps)?;
-    assert_eq!(rt; body.reach_of(), reach);
-    assert_eq!(rt; body.length_of(), length);
-    assert_eq!(rt; body.kind_of(), 3);
-    // They never change.
-    body.tell(1);
-    body.took();
-    assert_eq!(rt; body.reach_of(), reach);
-    assert_eq!(rt; body.length_of(), length);
-    assert_eq!(rt; body.kind_of(), 3);
-    Ok(())
-}
+const MEASURES: &[(&[ScriptStep], usize, usize)] = &[
+    (&[], 0, 0),
+    (&[Read { cell: 0 }], 1, 1),
+    (&[Carry { cell: 0 }], 1, 1),
+    (&[HIGH], 8, 1),
+    (&[Read { cell: 4095 }], 4096, 1),
+    (&[Carry { cell: 4095 }], 4096, 1),
+    (&[TOP], 4096, 1),
+    // The highest cell first, in the middle and last.
+    (&[Read { cell: 9 }, HIGH, Carry { cell: 8 }], 10, 3),
+    (&[Read { cell: 3 }, HIGH, Carry { cell: 6 }], 8, 3),
+    (&[Read { cell: 3 }, HIGH, Carry { cell: 8 }], 9, 3),
+    (&[HIGH, HIGH], 8, 2),
+];
 
 #[test]
 fn measures(rt: HostRuntime) -> Result<(), Fail> {
-    let heap = rt.alloc();
-    let put = Put { cell: 7, amount: 1 };
-    let top = Put {
-        cell: 4095,
-        amount: 1,
-    };
-    measured(&rt, heap, &[], 0, 0)?;
-    measured(&rt, heap, &[Read { cell: 0 }], 1, 1)?;
-    measured(&rt, heap, &[Carry { cell: 0 }], 1, 1)?;
-    measured(&rt, heap, &[put], 8, 1)?;
-    measured(&rt, heap, &[Read { cell: 4095 }], 4096, 1)?;
-    measured(&rt, heap, &[Carry { cell: 4095 }], 4096, 1)?;
-    measured(&rt, heap, &[top], 4096, 1)?;
-    // The highest cell first, in the middle and last.
-    measured(
-        &rt,
-        heap,
-        &[Read { cell: 9 }, put, Carry { cell: 8 }],
-        10,
-        3,
-    )?;
-    measured(&rt, heap, &[Read { cell: 3 }, put, Carry { cell: 6 }], 8, 3)?;
-    measured(&rt, heap, &[Read { cell: 3 }, put, Carry { cell: 8 }], 9, 3)?;
-    measured(&rt, heap, &[put, put], 8, 2)
+    for (steps, reach, length) in MEASURES.iter().copied() {
+        let measures = Measures {
+            reach,
+            length,
+            kind: 3,
+        };
+        measured(&rt, &mut script(rt.alloc(), steps)?, measures);
+    }
+    Ok(())
 }

@@ -168,21 +168,22 @@ fn told_amounts(rt: HostRuntime) -> Result<(), Fail> {
     let steps = [ScriptStep::Read { cell: 2 }, ScriptStep::Carry { cell: 1 }];
     let mut carries = script(rt.alloc(), &steps)?;
     let mut total = Total::new(2, 2, 1)?;
-    for amount in [0, 1, -1, LIMIT, -LIMIT] {
+    let told = [
+        (0, Write(1, 0)),
+        (1, Write(1, 1)),
+        (-1, Write(1, -1)),
+        (LIMIT, Write(1, LIMIT)),
+        (-LIMIT, Write(1, -LIMIT)),
+        (BEYOND, End),
+        (-BEYOND, End),
+        (MOST, End),
+        (LEAST, End),
+    ];
+    for (amount, asked) in told {
         let table = [
             (Restart, Read(2)),
-            (Tell(amount), Write(1, amount)),
-            (Tell(5), Write(1, amount)),
-            (Took, End),
-        ];
-        answers(&rt, &mut carries, &table);
-        answers(&rt, &mut total, &table);
-    }
-    for amount in [BEYOND, -BEYOND, MOST, LEAST] {
-        let table = [
-            (Restart, Read(2)),
-            (Tell(amount), End),
-            (Tell(5), End),
+            (Tell(amount), asked),
+            (Tell(5), asked),
             (Took, End),
         ];
         answers(&rt, &mut carries, &table);

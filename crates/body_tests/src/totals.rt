@@ -1,220 +1,302 @@
 // What totals do alone, and their reach and length.
-use super::alone::{Tellings, does, runs};
-use super::limits::{BEYOND, LEAST, LIMIT, MOST};
-use body::{Body, Total};
+use super::alone::{Measures, Run, Tellings, does, measured, runs};
+use super::limits::{LIMIT, OUTSIDE, WITHIN};
+use body::Total;
 use std::alloc::{AllocError, Global};
 use std::process::Abort;
 use std::test::Fail;
 
-// A total of the cells `first` to `last` into `target`, on these cells.
-fn totals(
-    rt: &impl Abort,
-    heap: Global,
+// A total of the cells `first` to `last` into `target`.
+struct Row {
+    name: &'static str,
     first: u32,
     last: u32,
     target: u32,
-    cells: &[i64],
-    handed: &[i64],
-    left: &[i64],
-) -> Result<(), Fail> {
-    does(
-        rt,
-        heap,
-        &mut Total::new(first, last, target)?,
-        cells,
-        handed,
-        left,
-    )
+    run: Run<'static>,
 }
 
-#[test]
-fn ranges(rt: HostRuntime) -> Result<(), Fail> {
-    let heap = rt.alloc();
-    // One cell.
-    totals(&rt, heap, 0, 0, 1, &[5, 9], &[5], &[5, 5])?;
-    totals(&rt, heap, 1, 1, 0, &[5, 9], &[9], &[9, 9])?;
-    totals(&rt, heap, 1, 1, 1, &[5, 9], &[9], &[5, 9])?;
-    totals(&rt, heap, 0, 0, 1, &[0, 9], &[0], &[0, 0])?;
-    // The target before the range, behind it and in it.
-    totals(&rt, heap, 1, 3, 0, &[7, 1, 2, 3], &[1, 2, 3], &[6, 1, 2, 3])?;
-    totals(&rt, heap, 0, 1, 3, &[-4, 4, 8, 9], &[-4, 4], &[-4, 4, 8, 0])?;
-    totals(&rt, heap, 0, 2, 0, &[4, 5, 6], &[4, 5, 6], &[15, 5, 6])?;
-    totals(&rt, heap, 0, 2, 1, &[4, 5, 6], &[4, 5, 6], &[4, 15, 6])?;
-    totals(&rt, heap, 0, 2, 2, &[4, 5, 6], &[4, 5, 6], &[4, 5, 15])?;
-    totals(&rt, heap, 1, 2, 0, &[9, -3, 1], &[-3, 1], &[-2, -3, 1])
-}
+const ROWS: &[Row] = &[
+    Row {
+        name: "one cell",
+        first: 0,
+        last: 0,
+        target: 1,
+        run: Run {
+            cells: &[5, 9],
+            handed: &[5],
+            left: &[5, 5],
+        },
+    },
+    Row {
+        name: "one cell, the target before it",
+        first: 1,
+        last: 1,
+        target: 0,
+        run: Run {
+            cells: &[5, 9],
+            handed: &[9],
+            left: &[9, 9],
+        },
+    },
+    Row {
+        name: "one cell, which is the target",
+        first: 1,
+        last: 1,
+        target: 1,
+        run: Run {
+            cells: &[5, 9],
+            handed: &[9],
+            left: &[5, 9],
+        },
+    },
+    Row {
+        name: "a sum of 0",
+        first: 0,
+        last: 0,
+        target: 1,
+        run: Run {
+            cells: &[0, 9],
+            handed: &[0],
+            left: &[0, 0],
+        },
+    },
+    Row {
+        name: "the target before the range",
+        first: 1,
+        last: 3,
+        target: 0,
+        run: Run {
+            cells: &[7, 1, 2, 3],
+            handed: &[1, 2, 3],
+            left: &[6, 1, 2, 3],
+        },
+    },
+    Row {
+        name: "the target behind the range",
+        first: 0,
+        last: 1,
+        target: 3,
+        run: Run {
+            cells: &[-4, 4, 8, 9],
+            handed: &[-4, 4],
+            left: &[-4, 4, 8, 0],
+        },
+    },
+    Row {
+        name: "the target first in the range",
+        first: 0,
+        last: 2,
+        target: 0,
+        run: Run {
+            cells: &[4, 5, 6],
+            handed: &[4, 5, 6],
+            left: &[15, 5, 6],
+        },
+    },
+    Row {
+        name: "the target in the middle",
+        first: 0,
+        last: 2,
+        target: 1,
+        run: Run {
+            cells: &[4, 5, 6],
+            handed: &[4, 5, 6],
+            left: &[4, 15, 6],
+        },
+    },
+    Row {
+        name: "the target last in the range",
+        first: 0,
+        last: 2,
+        target: 2,
+        run: Run {
+            cells: &[4, 5, 6],
+            handed: &[4, 5, 6],
+            left: &[4, 5, 15],
+        },
+    },
+    Row {
+        name: "a negative sum",
+        first: 1,
+        last: 2,
+        target: 0,
+        run: Run {
+            cells: &[9, -3, 1],
+            handed: &[-3, 1],
+            left: &[-2, -3, 1],
+        },
+    },
+    // The whole sum at the limit, and beyond it.
+    Row {
+        name: "one above",
+        first: 0,
+        last: 1,
+        target: 2,
+        run: Run {
+            cells: &[LIMIT, 1, 7],
+            handed: &[LIMIT, 1],
+            left: &[LIMIT, 1, 7],
+        },
+    },
+    Row {
+        name: "one above, the other way",
+        first: 0,
+        last: 1,
+        target: 2,
+        run: Run {
+            cells: &[1, LIMIT, 7],
+            handed: &[1, LIMIT],
+            left: &[1, LIMIT, 7],
+        },
+    },
+    Row {
+        name: "one below",
+        first: 0,
+        last: 1,
+        target: 2,
+        run: Run {
+            cells: &[-LIMIT, -1, 7],
+            handed: &[-LIMIT, -1],
+            left: &[-LIMIT, -1, 7],
+        },
+    },
+    Row {
+        name: "far above",
+        first: 0,
+        last: 1,
+        target: 2,
+        run: Run {
+            cells: &[LIMIT, LIMIT, 7],
+            handed: &[LIMIT, LIMIT],
+            left: &[LIMIT, LIMIT, 7],
+        },
+    },
+    Row {
+        name: "the limit",
+        first: 0,
+        last: 1,
+        target: 2,
+        run: Run {
+            cells: &[LIMIT - 1, 1, 7],
+            handed: &[LIMIT - 1, 1],
+            left: &[LIMIT - 1, 1, LIMIT],
+        },
+    },
+    Row {
+        name: "minus the limit",
+        first: 0,
+        last: 1,
+        target: 2,
+        run: Run {
+            cells: &[1 - LIMIT, -1, 7],
+            handed: &[1 - LIMIT, -1],
+            left: &[1 - LIMIT, -1, -LIMIT],
+        },
+    },
+    Row {
+        name: "limits that cancel",
+        first: 0,
+        last: 1,
+        target: 2,
+        run: Run {
+            cells: &[LIMIT, -LIMIT, 7],
+            handed: &[LIMIT, -LIMIT],
+            left: &[LIMIT, -LIMIT, 0],
+        },
+    },
+    // Only the whole sum counts: on the way it may be beyond the limit.
+    Row {
+        name: "above on the way",
+        first: 0,
+        last: 2,
+        target: 3,
+        run: Run {
+            cells: &[LIMIT, 1, -1, 7],
+            handed: &[LIMIT, 1, -1],
+            left: &[LIMIT, 1, -1, LIMIT],
+        },
+    },
+    Row {
+        name: "below on the way",
+        first: 0,
+        last: 2,
+        target: 3,
+        run: Run {
+            cells: &[-LIMIT, -LIMIT, LIMIT, 7],
+            handed: &[-LIMIT, -LIMIT, LIMIT],
+            left: &[-LIMIT, -LIMIT, LIMIT, -LIMIT],
+        },
+    },
+];
 
-// A given amount at the limit, and beyond it.
 #[test]
-fn given_amounts(rt: HostRuntime) -> Result<(), Fail> {
-    let heap = rt.alloc();
-    for amount in [LIMIT, -LIMIT, LIMIT - 1, 1 - LIMIT, 1, -1, 0] {
-        totals(
-            &rt,
-            heap,
-            0,
-            0,
-            1,
-            &[amount, 3],
-            &[amount],
-            &[amount, amount],
-        )?;
-        totals(
-            &rt,
-            heap,
-            0,
-            1,
-            2,
-            &[0, amount, 3],
-            &[0, amount],
-            &[0, amount, amount],
-        )?;
-    }
-    for amount in [BEYOND, -BEYOND, MOST, LEAST, LIMIT * 2, LIMIT * -2] {
-        totals(&rt, heap, 0, 0, 1, &[amount, 3], &[amount], &[amount, 3])?;
-        // The first of the range, one in the middle, and the last.
-        totals(
-            &rt,
-            heap,
-            0,
-            2,
-            3,
-            &[amount, 1, 2, 3],
-            &[amount],
-            &[amount, 1, 2, 3],
-        )?;
-        totals(
-            &rt,
-            heap,
-            0,
-            2,
-            3,
-            &[1, amount, 2, 3],
-            &[1, amount],
-            &[1, amount, 2, 3],
-        )?;
-        totals(
-            &rt,
-            heap,
-            0,
-            2,
-            3,
-            &[1, 2, amount, 3],
-            &[1, 2, amount],
-            &[1, 2, amount, 3],
-        )?;
-        // Outside the range it is not read.
-        totals(
-            &rt,
-            heap,
-            1,
-            1,
-            0,
-            &[amount, 3, amount],
-            &[3],
-            &[3, 3, amount],
-        )?;
+fn sums(rt: HostRuntime) -> Result<(), Fail> {
+    for row in ROWS {
+        let mut total = Total::new(row.first, row.last, row.target)?;
+        does(&rt, rt.alloc(), &mut total, row.run, row.name)?;
     }
     Ok(())
 }
 
-// The whole sum at the limit, and beyond it.
+// A given amount within the limit is summed.
 #[test]
-fn sums(rt: HostRuntime) -> Result<(), Fail> {
+fn amounts_within(rt: HostRuntime) -> Result<(), Fail> {
     let heap = rt.alloc();
-    totals(
-        &rt,
-        heap,
-        0,
-        1,
-        2,
-        &[LIMIT, 1, 7],
-        &[LIMIT, 1],
-        &[LIMIT, 1, 7],
-    )?;
-    totals(
-        &rt,
-        heap,
-        0,
-        1,
-        2,
-        &[1, LIMIT, 7],
-        &[1, LIMIT],
-        &[1, LIMIT, 7],
-    )?;
-    totals(
-        &rt,
-        heap,
-        0,
-        1,
-        2,
-        &[-LIMIT, -1, 7],
-        &[-LIMIT, -1],
-        &[-LIMIT, -1, 7],
-    )?;
-    totals(
-        &rt,
-        heap,
-        0,
-        1,
-        2,
-        &[LIMIT, LIMIT, 7],
-        &[LIMIT, LIMIT],
-        &[LIMIT, LIMIT, 7],
-    )?;
-    totals(
-        &rt,
-        heap,
-        0,
-        1,
-        2,
-        &[LIMIT - 1, 1, 7],
-        &[LIMIT - 1, 1],
-        &[LIMIT - 1, 1, LIMIT],
-    )?;
-    totals(
-        &rt,
-        heap,
-        0,
-        1,
-        2,
-        &[1 - LIMIT, -1, 7],
-        &[1 - LIMIT, -1],
-        &[1 - LIMIT, -1, -LIMIT],
-    )?;
-    totals(
-        &rt,
-        heap,
-        0,
-        1,
-        2,
-        &[LIMIT, -LIMIT, 7],
-        &[LIMIT, -LIMIT],
-        &[LIMIT, -LIMIT, 0],
-    )?;
-    // Only the whole sum counts: on the way it may be beyond the limit.
-    let up = [LIMIT, 1, -1, 7];
-    totals(
-        &rt,
-        heap,
-        0,
-        2,
-        3,
-        &up,
-        &[LIMIT, 1, -1],
-        &[LIMIT, 1, -1, LIMIT],
-    )?;
-    let down = [-LIMIT, -LIMIT, LIMIT, 7];
-    totals(
-        &rt,
-        heap,
-        0,
-        2,
-        3,
-        &down,
-        &[-LIMIT, -LIMIT, LIMIT],
-        &[-LIMIT, -LIMIT, LIMIT, -LIMIT],
-    )
+    let mut one = Total::new(0, 0, 1)?;
+    let mut two = Total::new(0, 1, 2)?;
+    for amount in WITHIN {
+        let run = Run {
+            cells: &[amount, 3],
+            handed: &[amount],
+            left: &[amount, amount],
+        };
+        does(&rt, heap, &mut one, run, "alone")?;
+        let run = Run {
+            cells: &[0, amount, 3],
+            handed: &[0, amount],
+            left: &[0, amount, amount],
+        };
+        does(&rt, heap, &mut two, run, "added to 0")?;
+    }
+    Ok(())
+}
+
+// A given amount beyond the limit ends the total, whether it is all of the range, the first of it, one in the middle, or the last.
+// Outside the range it is not read.
+#[test]
+fn amounts_beyond(rt: HostRuntime) -> Result<(), Fail> {
+    let heap = rt.alloc();
+    let mut one = Total::new(0, 0, 1)?;
+    let mut three = Total::new(0, 2, 3)?;
+    let mut middle = Total::new(1, 1, 0)?;
+    for amount in OUTSIDE {
+        let run = Run {
+            cells: &[amount, 3],
+            handed: &[amount],
+            left: &[amount, 3],
+        };
+        does(&rt, heap, &mut one, run, "all of the range")?;
+        let rows = [
+            ([amount, 1, 2, 3], 1, "the first"),
+            ([1, amount, 2, 3], 2, "in the middle"),
+            ([1, 2, amount, 3], 3, "the last"),
+        ];
+        for (cells, reads, name) in rows {
+            let run = Run {
+                cells: &cells,
+                handed: &cells[..reads],
+                left: &cells,
+            };
+            does(&rt, heap, &mut three, run, name)?;
+        }
+        let run = Run {
+            cells: &[amount, 3, amount],
+            handed: &[3],
+            left: &[3, 3, amount],
+        };
+        does(&rt, heap, &mut middle, run, "outside the range")?;
+    }
+    Ok(())
 }
 
 // 4096 cells: the first 2048 with one amount, the others with another.
@@ -234,40 +316,36 @@ fn totals_all(rt: &impl Abort, heap: Global, cells: &[i64], amount: i64) -> Resu
     let mut left = cells.to_vec(heap)?;
     assert!(rt; left.len() == 4096);
     left[0] = amount;
+    let run = Run {
+        cells,
+        handed: cells,
+        left: left.as_slice(),
+    };
     let mut total = Total::new(0, 4095, 0)?;
-    runs(
-        rt,
-        heap,
-        &mut total,
-        Tellings::Right,
-        cells,
-        cells,
-        left.as_slice(),
-        "from the start on",
-    )?;
-    runs(
-        rt,
-        heap,
-        &mut total,
-        Tellings::Wrong,
-        cells,
-        cells,
-        left.as_slice(),
-        "with wrong tellings",
-    )
+    for tellings in [Tellings::Right, Tellings::Wrong] {
+        runs(rt, heap, &mut total, tellings, run, "all cells")?;
+    }
+    Ok(())
 }
 
 #[test]
 fn all_cells(rt: HostRuntime) -> Result<(), Fail> {
     let heap = rt.alloc();
-    totals_all(&rt, heap, halves(heap, 1, 1)?.as_slice(), 4096)?;
-    totals_all(&rt, heap, halves(heap, 3, -1)?.as_slice(), 4096)?;
-    // Far beyond the limit on the way, and back to 0.
-    totals_all(&rt, heap, halves(heap, LIMIT, -LIMIT)?.as_slice(), 0)?;
-    totals_all(&rt, heap, halves(heap, -LIMIT, LIMIT)?.as_slice(), 0)?;
-    // Beyond the limit at the end: cell 0 keeps its amount.
-    totals_all(&rt, heap, halves(heap, LIMIT, LIMIT)?.as_slice(), LIMIT)?;
-    totals_all(&rt, heap, halves(heap, -LIMIT, -LIMIT)?.as_slice(), -LIMIT)
+    // The amounts of both halves, and what cell 0 gets.
+    let table = [
+        (1, 1, 4096),
+        (3, -1, 4096),
+        // Far beyond the limit on the way, and back to 0.
+        (LIMIT, -LIMIT, 0),
+        (-LIMIT, LIMIT, 0),
+        // Beyond the limit at the end: cell 0 keeps its amount.
+        (LIMIT, LIMIT, LIMIT),
+        (-LIMIT, -LIMIT, -LIMIT),
+    ];
+    for (front, back, amount) in table {
+        totals_all(&rt, heap, halves(heap, front, back)?.as_slice(), amount)?;
+    }
+    Ok(())
 }
 
 #[test]
@@ -292,15 +370,12 @@ fn measures(rt: HostRuntime) -> Result<(), Fail> {
         (0, 4095, 4095, 4096, 4097),
     ];
     for (first, last, target, reach, length) in table {
-        let mut total = Total::new(first, last, target)?;
-        assert_eq!(rt; total.reach_of(), reach);
-        assert_eq!(rt; total.length_of(), length);
-        assert_eq!(rt; total.kind_of(), 2);
-        // They never change.
-        total.tell(1);
-        assert_eq!(rt; total.reach_of(), reach);
-        assert_eq!(rt; total.length_of(), length);
-        assert_eq!(rt; total.kind_of(), 2);
+        let measures = Measures {
+            reach,
+            length,
+            kind: 2,
+        };
+        measured(&rt, &mut Total::new(first, last, target)?, measures);
     }
     Ok(())
 }
