@@ -1,5 +1,5 @@
 -- A log that lies at the front of a lent stretch: where it has a cell, and what the stretch holds after an entry.
-use Rattle.std.specs.Prelude.{◌≡◌, ℕ, ◌+◌, cond, List, Some, None, Option, slice_set}
+use Rattle.std.specs.Prelude.{ℕ, cond, List, Some, None, Option, slice_set}
 use Rattle.lane.specs.Logs.{holds, place_by}
 
 -- The place of a cell's entry, if the log has one.

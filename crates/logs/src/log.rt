@@ -9,12 +9,7 @@ use super::entry::Entry;
 pub fn find<E: Entry>(log: &[E], cell: u32) -> Option<usize>
     ensures { result ≡ found E.Entry.cell cell log.now }
 {
-    for i in 0..log.len() {
-        if log[i].cell_of() == cell {
-            return Some(i);
-        }
-    }
-    None
+    log.iter().position(|entry| entry.cell_of() == cell)
 }
 
 // Enters into the log of so many entries at the front of the stretch: in the place of its cell's entry, or behind the last.
@@ -24,7 +19,7 @@ pub fn enter<E: Entry>(stretch: &mut [E], used: usize, entry: E) -> bool
     ensures grown { result ≡ not (holds E.Entry.cell (E.Entry.cell entry) (take used stretch.old)) }
 {
     let end = used.min(stretch.len());
-    let found = find(&stretch[0..end], entry.cell_of());
+    let found = find(&stretch[..end], entry.cell_of());
     let at = found.unwrap_or(end);
     if at < stretch.len() {
         stretch[at] = entry;

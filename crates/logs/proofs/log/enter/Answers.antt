@@ -1,4 +1,4 @@
-use Rattle.std.proofs.Common.{◌≡◌, ◌-◌, take, set, unwrap_or, sym, refl, ap, ◌∙◌, subst}
+use Rattle.std.proofs.Common.{take, set, unwrap_or, sym, ap, ◌∙◌}
 use lib.Seq.{set_out}
 use Rattle.logs.specs.Entered.{found}
 use Rattle.logs.proofs.Entering.{enters_at}
@@ -11,7 +11,7 @@ returns g c =
     let s = c.args.stretch.now in
     let r =
     enters_at cell (cell c.args.entry) s c.args.used c.min-end.result c.unwrap_or-at.result c.min-end.ensures
-    (c.unwrap_or-at.ensures ∙ ap (λ z. unwrap_or z c.min-end.result) (c.find-found.ensures ∙ ap (λ z. found cell z (take (c.min-end.result - 0) s)) c.cell_of.ensures)) in
+    (c.unwrap_or-at.ensures ∙ ap (λ z. unwrap_or z c.min-end.result) (c.find-found.ensures ∙ ap (λ z. found cell z (take c.min-end.result s)) c.cell_of.ensures)) in
     record {
       laid = elim c.if-at-stretch.branch [
         | then-at-stretch w ↦ w.stretch-is ∙ ap (λ z. set s z c.args.entry) r.0
