@@ -4,9 +4,8 @@ use Rattle.body.specs.declared.body.Body.{Ghosts}
 use Rattle.queue.specs.Queued.{queued}
 use Rattle.lane.specs.declared.refusal.StepRefusal.{StepRefusal}
 use Rattle.lane.specs.declared.refusal.StepRefusal.TheVariants.{NoSeat, Idle, Lists as Lists-refused}
-use Rattle.lane.specs.Calls.{Opened, all_seats, sizes_of, can_step, entry_of, made_by, step_now, there}
+use Rattle.lane.specs.Calls.{Opened, all_seats, sizes_of, can_step, made_by, step_now}
 use Rattle.lane.specs.Effects.{start_after}
-use Rattle.lane.specs.Phases.{step_at}
 use Rattle.lane.specs.declared.seated.Seated.{Seated}
 use Rattle.lane.specs.declared.step.Effect.{Effect}
 use Rattle.lane.specs.declared.step.Effect.TheVariants.{Unchanged, FlagSet, LaneTaken, MarkSet, CellSet, NumberRaised, NumberLowered, QueueJoined, QueueLeft}
@@ -21,6 +20,7 @@ use Rattle.book.specs.declared.common.Common.{Common}
 use Rattle.book.specs.declared.desk.Desk.{Desk}
 use Rattle.book.specs.declared.lists.Lists.{Lists}
 use Rattle.book.specs.declared.ready.Ready.{Ready}
+use Rattle.book.specs.declared.sight.Sight.{Sight}
 
 -- What is shared.
 abbrev pub shared_of : Common → List ℤ → List ℕ → Shared
@@ -57,6 +57,13 @@ cells_after QueueLeft cells = cells
 -- The transaction at a seat, with these logs.
 abbrev pub work_with : {B : Type 0} → B → Seated → List ℕ → List Written → Work B
 work_with b s reads writes = record { body = b; way = s.way; start = s.start; reads = reads; writes = writes }
+
+-- What a sight shows: what is shared, and the transaction with its logs.
+abbrev pub shared_in : Sight → Shared
+shared_in v = shared_of v.common.now v.cells.now v.marks.now
+
+abbrev pub work_in : {B : Type 0} → B → Sight → Work B
+work_in b v = work_with b v.seated v.reads.now v.writes.now
 
 abbrev pub if_there : {A B : Type 0} → (A → B) → Option A → Option B
 if_there f None = None
@@ -139,13 +146,6 @@ bare_open o = record {
 
 -- What a seat that may step is to do, or why it may not.
 module _ {B : Type 0} (m : Ghosts B) where
-  abbrev pub planned : Common → Lists → B → ℕ → Seated → Option Ready
-  planned c l b k s =
-      let work = work_with b s (stretch l.reads.now (reads_from k) s.reads) (stretch l.writes.now (writes_from k) s.writes) in
-      cond (there (length l.cells.now) (entry_of work s.phase))
-      (Some (record { seated = s; step = step_at m (shared_of c l.cells.now l.marks.now) k work s.phase; kind = m.kind }))
-      None
-
   abbrev pub ready_by : World B → ℕ → Option Seated → Option B → Result Ready StepRefusal
   ready_by w k None b = Err Idle
   ready_by w k (Some s) None = Err Idle

@@ -18,6 +18,7 @@ mod ready;
 mod recording;
 mod refused;
 mod seating;
+mod sight;
 mod status;
 mod telling;
 mod ticket;
