@@ -6,7 +6,7 @@ ghost use Rattle.book.specs.Views.{CanAct, moved_with, world};
 use super::changing::{change, change_cells, change_marks};
 use super::desk::Desk;
 use super::lists::Lists;
-use super::logging::{log_read, log_write};
+use super::logging::{Used, log};
 use super::ready::Ready;
 use super::recording::{made_after, note, record_of};
 use super::telling::tell;
@@ -28,20 +28,10 @@ impl<B: Body> Desk<B> {
         change_marks(lists.marks, number, step.effect);
         change_cells(lists.cells, step.effect);
         change(&mut self.common, seat, step.effect);
-        let used = Used {
-            reads: log_read(lists.reads, seat, ready.seated, step.log),
-            writes: log_write(lists.writes, seat, ready.seated, step.log),
-        };
+        let used = log(lists.reads, lists.writes, seat, ready.seated, step.log);
         tell(&mut self.bodies[at], step.told);
         self.seats[at] = moved(ready.seated, step, used, room);
     }
-}
-
-// How many entries of its logs a seat uses.
-#[derive(Clone, Copy)]
-struct Used {
-    reads: u32,
-    writes: u32,
 }
 
 // What the book knows of the transaction after the step.
