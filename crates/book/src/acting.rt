@@ -18,19 +18,18 @@ impl<B: Body> Desk<B> {
         requires { CanAct B.Body (world self.old lists.old) seat ready }
         ensures { (b : B) → slice_index_or self.old.bodies seat None ≡ Some b → world self.new lists.new ≡ step_world B.Body (world self.old lists.old) seat ready.seated b ready.step }
     {
-        let step = ready.step;
+        let Ready { seated, step, kind } = ready;
         let at = seat as usize;
-        let room = self.used < self.sizes.journal;
-        let entry = record_of(ready.kind, seat, ready.seated, self.common.number, step);
-        let before = self.used;
-        self.used = note(lists.journal, before, entry);
         let number = self.common.number;
+        let room = self.used < self.sizes.journal;
+        let record = record_of(kind, seat, seated, number, step);
+        self.used = note(lists.journal, self.used, record);
         change_marks(lists.marks, number, step.effect);
         change_cells(lists.cells, step.effect);
         change(&mut self.common, seat, step.effect);
-        let used = log(lists.reads, lists.writes, seat, ready.seated, step.log);
+        let used = log(lists.reads, lists.writes, seat, seated, step.log);
         tell(&mut self.bodies[at], step.told);
-        self.seats[at] = moved(ready.seated, step, used, room);
+        self.seats[at] = moved(seated, step, used, room);
     }
 }
 
@@ -39,22 +38,17 @@ fn moved(seated: Seated, step: Step, used: Used, room: bool) -> Option<Seated>
     requires { seated.made + 1 < 2 ^ 32 }
     ensures { result ≡ seated_to step.next (moved_with seated step used.reads used.writes room) }
 {
+    let phase = step.next?;
     let start = match step.told {
         Told::Restarted(start) => start,
         _ => seated.start,
     };
-    let made = made_after(step.effect, room, seated.made);
-    match step.next {
-        None => None,
-        Some(phase) => Some(Seated {
-            phase,
-            way: seated.way,
-            tag: seated.tag,
-            start,
-            reads: used.reads,
-            writes: used.writes,
-            made,
-            keeps: seated.keeps,
-        }),
-    }
+    Some(Seated {
+        phase,
+        start,
+        reads: used.reads,
+        writes: used.writes,
+        made: made_after(step.effect, room, seated.made),
+        ..seated
+    })
 }

@@ -67,12 +67,14 @@ fn seat_word(seats: &[Option<Seated>]) -> u32
 fn bit(seat: Option<Seated>) -> u32
     ensures { result ≡ seat_bit seat }
 {
-    let Some(seated) = seat else {
-        return 0;
-    };
-    match seated.phase {
-        Phase::Reserve => 0,
-        Phase::Begin => 0,
-        _ => 1,
+    match seat {
+        None => 0,
+        Some(
+            Seated {
+                phase: Phase::Reserve | Phase::Begin,
+                ..
+            },
+        ) => 0,
+        Some(_) => 1,
     }
 }

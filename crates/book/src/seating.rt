@@ -86,13 +86,12 @@ fn first_phase(seat: u32) -> Phase
 fn way(seat: u32, number: u32) -> Option<Way>
     ensures { result ≡ way_of seat number }
 {
-    if seat == 0 {
-        return if number == 0 { Some(Way::One) } else { None };
-    }
-    match number {
-        1 => Some(Way::One),
-        2 => Some(Way::Two),
-        3 => Some(Way::Three),
+    match (seat, number) {
+        (0, 0) => Some(Way::One),
+        (0, _) => None,
+        (_, 1) => Some(Way::One),
+        (_, 2) => Some(Way::Two),
+        (_, 3) => Some(Way::Three),
         _ => None,
     }
 }
@@ -121,11 +120,14 @@ fn records_kept(seats: &[Option<Seated>]) -> usize
 fn keeps(seat: Option<Seated>) -> u32
     ensures { result ≡ kept_by seat }
 {
-    let Some(seated) = seat else {
-        return 0;
-    };
-    match seated.phase {
-        Phase::Leave => 0,
-        _ => seated.keeps,
+    match seat {
+        None => 0,
+        Some(
+            Seated {
+                phase: Phase::Leave,
+                ..
+            },
+        ) => 0,
+        Some(seated) => seated.keeps,
     }
 }
