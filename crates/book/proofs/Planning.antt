@@ -14,6 +14,7 @@ use Rattle.lane.specs.Worlds.{World, stretch, read_log, write_log, work_of}
 use Rattle.book.specs.declared.desk.Desk.{Desk}
 use Rattle.book.specs.declared.lists.Lists.{Lists}
 use Rattle.book.specs.declared.ready.Ready.{Ready}
+use Rattle.book.specs.Chairs.{bodies_of, seats_of}
 use Rattle.book.specs.Views.{work_with, world, ready_of}
 
 pub short_stretch : {X : Type 0} (l : List X) (p n : ℕ) → length (stretch l p n) ≤ n
@@ -43,7 +44,7 @@ entry_same b s R W Leave = refl
 
 -- A seat with a transaction and a body, and lists as at open. `R` and `W` are its logs, as the code finds them.
 module _ {B : Type 0} (m : Ghosts B) (d : Desk B) (l : Lists) (k : ℕ) (s : Seated) (b : B)
-    (h : ltb d.helpers k ≡ false) (at : get_or d.seats k None ≡ Some s) (has : get_or d.bodies k None ≡ Some b) (lent : same_sizes (world d l) ≡ true)
+    (h : ltb d.helpers k ≡ false) (at : get_or (seats_of d.chairs) k None ≡ Some s) (has : get_or (bodies_of d.chairs) k None ≡ Some b) (lent : same_sizes (world d l) ≡ true)
     (R : List ℕ) (W : List Written) (is-reads : R ≡ read_log (world d l) k s) (is-writes : W ≡ write_log (world d l) k s) where
   abbrev w : World B
   w = world d l

@@ -16,6 +16,7 @@ use Rattle.lane.specs.declared.written.Written.{Written}
 use Rattle.lane.specs.Logs.{cell_of, itself, place_by, most_reads, most_writes}
 use Rattle.lane.specs.State.{Shared, Work}
 use Rattle.lane.specs.Worlds.{World, stretch, reads_from, writes_from}
+use Rattle.book.specs.Chairs.{bodies_of, seats_of}
 use Rattle.book.specs.declared.common.Common.{Common}
 use Rattle.book.specs.declared.desk.Desk.{Desk}
 use Rattle.book.specs.declared.lists.Lists.{Lists}
@@ -93,8 +94,8 @@ world d l = record {
   helpers = d.helpers;
   sizes = d.sizes;
   shared = shared_of d.common l.cells.now l.marks.now;
-  seats = d.seats;
-  bodies = d.bodies;
+  seats = seats_of d.chairs;
+  bodies = bodies_of d.chairs;
   used = d.used;
   reads = l.reads.now;
   writes = l.writes.now;
@@ -108,8 +109,8 @@ bare d = record {
   helpers = d.helpers;
   sizes = d.sizes;
   shared = shared_of d.common [] [];
-  seats = d.seats;
-  bodies = d.bodies;
+  seats = seats_of d.chairs;
+  bodies = bodies_of d.chairs;
   used = d.used;
   reads = [];
   writes = [];

@@ -1,6 +1,7 @@
 // Takes a step that was decided.
 ghost use Rattle.std.specs.Prelude.{◌≡◌, ◌+◌, ◌^◌, ◌<◌, ◌≤◌, length, Some, None, slice_index_or};
 ghost use Rattle.lane.specs.Calls.{seated_to, step_world};
+ghost use Rattle.book.specs.Chairs.{bodies_of};
 ghost use Rattle.book.specs.Views.{CanAct, moved_with, world};
 
 use super::changing::{change, change_cells, change_marks};
@@ -16,7 +17,7 @@ use lane::{Seated, Step, Told};
 impl<B: Body> Desk<B> {
     pub(crate) fn act(&mut self, lists: &mut Lists<'_>, seat: u32, ready: Ready)
         requires { CanAct B.Body (world self.old lists.old) seat ready }
-        ensures { (b : B) → slice_index_or self.old.bodies seat None ≡ Some b → world self.new lists.new ≡ step_world B.Body (world self.old lists.old) seat ready.seated b ready.step }
+        ensures { (b : B) → slice_index_or (bodies_of self.old.chairs) seat None ≡ Some b → world self.new lists.new ≡ step_world B.Body (world self.old lists.old) seat ready.seated b ready.step }
     {
         let Ready { seated, step, kind } = ready;
         let at = seat as usize;
@@ -28,8 +29,9 @@ impl<B: Body> Desk<B> {
         change_cells(lists.cells, step.effect);
         change(&mut self.common, seat, step.effect);
         let used = log(lists.reads, lists.writes, seat, seated, step.log);
-        tell(&mut self.bodies[at], step.told);
-        self.seats[at] = moved(seated, step, used, room);
+        let chair = &mut self.chairs[at];
+        tell(&mut chair.body, step.told);
+        chair.seated = moved(seated, step, used, room);
     }
 }
 

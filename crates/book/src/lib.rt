@@ -4,6 +4,7 @@
 mod acting;
 mod book;
 mod calls;
+mod chair;
 mod changing;
 mod common;
 mod deciding;

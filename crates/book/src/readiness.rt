@@ -3,6 +3,7 @@ ghost use Rattle.std.specs.Prelude.{◌≡◌, ◌+◌, ◌≤◌, length, None,
 ghost use Rattle.lane.specs.Calls.{same_sizes};
 ghost use Rattle.lane.specs.Worlds.{stretch};
 ghost use Rattle.book.specs.Books.{book_world};
+ghost use Rattle.book.specs.Chairs.{bodies_of, seats_of};
 ghost use Rattle.book.specs.Views.{if_there, ready_of, world};
 
 use super::book::Book;
@@ -63,16 +64,16 @@ impl<B: Body> Book<B> {
 impl<B> Desk<B> {
     // The transaction at a seat.
     pub(crate) fn seated_at(&self, seat: u32) -> Option<Seated>
-        ensures { result ≡ slice_index_or self.now.seats seat None }
+        ensures { result ≡ slice_index_or (seats_of self.now.chairs) seat None }
     {
-        self.seats.get(seat as usize).copied().flatten()
+        self.chairs.get(seat as usize)?.seated
     }
 
     // The body at a seat, of its transaction or of its last one.
     pub(crate) fn body_at(&self, seat: u32) -> Option<&B>
-        ensures { if_there (λ x. x.now) result ≡ slice_index_or self.now.bodies seat None }
+        ensures { if_there (λ x. x.now) result ≡ slice_index_or (bodies_of self.now.chairs) seat None }
     {
-        self.bodies.get(seat as usize)?.as_ref()
+        self.chairs.get(seat as usize)?.body.as_ref()
     }
 }
 

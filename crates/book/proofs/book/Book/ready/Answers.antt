@@ -1,6 +1,7 @@
 use Rattle.std.proofs.Common.{◌≡◌, ◌*◌, get_or, Some, None, sym, ap, ◌∙◌, arith}
 use Rattle.std.proofs.lemmas.Bool.{le-ltb}
 use Rattle.lane.specs.Worlds.{stretch}
+use Rattle.book.specs.Chairs.{seats_of}
 use Rattle.book.specs.Views.{if_there, world}
 use Rattle.book.proofs.Bounds.{few_reads, few_writes, reads_within, writes_within}
 use Rattle.book.proofs.Calling.{sane_lent}
@@ -28,7 +29,7 @@ invariant_of-sight g c =
     let sane = sane_lent d l c.args.self.now.sane in
     let k = c.args.seat in
     let s = c.in_ok-seated.seated in
-    let at : get_or d.seats k None ≡ Some s = sym c.seated_at.ensures ∙ c.in_ok-seated.ensures.ok_part in
+    let at : get_or (seats_of d.chairs) k None ≡ Some s = sym c.seated_at.ensures ∙ c.in_ok-seated.ensures.ok_part in
     record {
       few_reads = rw c.part.ensures (omega (arith, few_reads w sane k s c.if-seat-desk.false at, short_stretch l.reads.now (64 * c.saturating_sub-helper.result) s.reads));
       few_writes = rw c.part-2.ensures (omega (arith, few_writes w sane k s c.if-seat-desk.false at, short_stretch l.writes.now (32 * c.saturating_sub-helper.result) s.writes));
