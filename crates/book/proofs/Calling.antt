@@ -47,8 +47,7 @@ module _ {B : Type 0} where
     helpers = d.helpers;
     sizes = d.sizes;
     common = record { number = d.common.number; flag = d.common.flag; paused = p; queue = d.common.queue };
-    seats = d.seats;
-    bodies = d.bodies;
+    chairs = d.chairs;
     used = d.used;
   }
 

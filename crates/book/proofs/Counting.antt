@@ -1,8 +1,8 @@
 -- The word of the seats under way, seat by seat, and its ones.
-use Rattle.std.proofs.Common.{◌≡◌, ℕ, zero, suc, ◌+◌, ◌*◌, ◌/◌, ◌%◌, ◌^◌, ◌<◌, ◌≤◌, Bool, true, false, cond, List, [], ◌∷◌, length, reverse, bit_or, Some, None, Option, refl, ap, ◌∙◌, arith, pow_pos}
+use Rattle.std.proofs.Common.{◌≡◌, ℕ, zero, suc, ◌+◌, ◌*◌, ◌/◌, ◌%◌, ◌^◌, ◌<◌, ◌≤◌, Bool, true, false, cond, List, [], ◌∷◌, length, map, reverse, bit_or, Some, None, Option, refl, ap, ◌∙◌, arith, pow_pos}
 use Rattle.std.specs.List.{fold}
 use Rattle.std.proofs.lemmas.Grind.{common_steps}
-use Rattle.std.proofs.lemmas.List.{reverse-append}
+use Rattle.std.proofs.lemmas.List.{length-map, reverse-append}
 use Rattle.std.proofs.lemmas.List.Sums.{fold-append}
 use native.Mathlib.Nat.{pow-succ'}
 use lib.Count.{ones, ones_in, ones_step}
@@ -26,13 +26,13 @@ below (suc n) (s ∷ l) h = let z = below n l (omega arith) in let e = pow-succ'
 one_more : (w b : ℕ) → w < 2 ^ 8 → b ≤ 1 → bit_or ((w * 2 ^ 1) % 2 ^ 32) b ≡ b + 2 * w
 one_more w b h k = grind (arith, common_steps)
 
-pub word_folded : (l : List (Option Seated)) → length l ≤ 9 → fold (λ w s. bit_or ((w * 2 ^ 1) % 2 ^ 32) (seat_bit s)) 0 (reverse l) ≡ seat_word l
-word_folded [] h = refl
-word_folded (s ∷ l) h =
-    ap (λ z. fold (λ w s. bit_or ((w * 2 ^ 1) % 2 ^ 32) (seat_bit s)) 0 z) (reverse-append (s ∷ []) l)
-    ∙ fold-append (λ w s. bit_or ((w * 2 ^ 1) % 2 ^ 32) (seat_bit s)) 0 (reverse l) (s ∷ [])
-    ∙ ap (λ w. bit_or ((w * 2 ^ 1) % 2 ^ 32) (seat_bit s)) (word_folded l (omega arith))
-    ∙ one_more (seat_word l) (seat_bit s) (below 8 l (omega arith)) (bit_one s)
+pub word_folded : {X : Type 0} (f : X → Option Seated) (l : List X) → length l ≤ 9 → fold (λ w x. bit_or ((w * 2 ^ 1) % 2 ^ 32) (seat_bit (f x))) 0 (reverse l) ≡ seat_word (map f l)
+word_folded f [] h = refl
+word_folded f (x ∷ l) h =
+    ap (λ z. fold (λ w x. bit_or ((w * 2 ^ 1) % 2 ^ 32) (seat_bit (f x))) 0 z) (reverse-append (x ∷ []) l)
+    ∙ fold-append (λ w x. bit_or ((w * 2 ^ 1) % 2 ^ 32) (seat_bit (f x))) 0 (reverse l) (x ∷ [])
+    ∙ ap (λ w. bit_or ((w * 2 ^ 1) % 2 ^ 32) (seat_bit (f x))) (word_folded f l (omega arith))
+    ∙ one_more (seat_word (map f l)) (seat_bit (f x)) (below 8 (map f l) (omega (arith, length-map l f))) (bit_one (f x))
 
 ones_none : ones 0 ≡ 0
 unfolding ones ones_in

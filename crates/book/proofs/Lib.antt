@@ -3,7 +3,7 @@ pub mod Bounds
 pub mod Calling
 pub mod Counting
 pub mod Deeds
-pub mod Keeps
+pub mod Chairing
 pub mod Laying
 pub mod Planning
 pub mod Reaching

@@ -1,4 +1,5 @@
 pub mod Books
+pub mod Chairs
 pub mod Questions
 pub mod Reaching
 pub mod Seatings

@@ -3,6 +3,7 @@ use Rattle.std.specs.Prelude.{◌==◌}
 use Rattle.body.specs.declared.body.Body.{Ghosts}
 use Rattle.book.specs.declared.book.Book.{Book}
 use Rattle.book.specs.declared.status.Status.{Status}
+use Rattle.book.specs.Chairs.{seats_of}
 use Rattle.book.specs.Questions.{seat_count, seat_word}
 
 abbrev pub status_of : {B : Type 0} {m : Ghosts B} → Book B m → Status
@@ -11,7 +12,7 @@ status_of b = record {
   flag = b.desk.common.flag;
   paused = b.desk.common.paused;
   used = b.desk.used;
-  word = seat_word b.desk.seats;
-  count = seat_count b.desk.seats;
-  quiet = (seat_count b.desk.seats == 0);
+  word = seat_word (seats_of b.desk.chairs);
+  count = seat_count (seats_of b.desk.chairs);
+  quiet = (seat_count (seats_of b.desk.chairs) == 0);
 }

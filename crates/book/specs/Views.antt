@@ -4,9 +4,8 @@ use Rattle.body.specs.declared.body.Body.{Ghosts}
 use Rattle.queue.specs.Queued.{queued}
 use Rattle.lane.specs.declared.refusal.StepRefusal.{StepRefusal}
 use Rattle.lane.specs.declared.refusal.StepRefusal.TheVariants.{NoSeat, Idle, Lists as Lists-refused}
-use Rattle.lane.specs.Calls.{Opened, all_seats, sizes_of, can_step, entry_of, made_by, step_now, there}
+use Rattle.lane.specs.Calls.{Opened, all_seats, sizes_of, can_step, made_by, step_now}
 use Rattle.lane.specs.Effects.{start_after}
-use Rattle.lane.specs.Phases.{step_at}
 use Rattle.lane.specs.declared.seated.Seated.{Seated}
 use Rattle.lane.specs.declared.step.Effect.{Effect}
 use Rattle.lane.specs.declared.step.Effect.TheVariants.{Unchanged, FlagSet, LaneTaken, MarkSet, CellSet, NumberRaised, NumberLowered, QueueJoined, QueueLeft}
@@ -17,10 +16,12 @@ use Rattle.lane.specs.declared.written.Written.{Written}
 use Rattle.lane.specs.Logs.{cell_of, itself, place_by, most_reads, most_writes}
 use Rattle.lane.specs.State.{Shared, Work}
 use Rattle.lane.specs.Worlds.{World, stretch, reads_from, writes_from}
+use Rattle.book.specs.Chairs.{bodies_of, seats_of}
 use Rattle.book.specs.declared.common.Common.{Common}
 use Rattle.book.specs.declared.desk.Desk.{Desk}
 use Rattle.book.specs.declared.lists.Lists.{Lists}
 use Rattle.book.specs.declared.ready.Ready.{Ready}
+use Rattle.book.specs.declared.sight.Sight.{Sight}
 
 -- What is shared.
 abbrev pub shared_of : Common → List ℤ → List ℕ → Shared
@@ -58,6 +59,13 @@ cells_after QueueLeft cells = cells
 abbrev pub work_with : {B : Type 0} → B → Seated → List ℕ → List Written → Work B
 work_with b s reads writes = record { body = b; way = s.way; start = s.start; reads = reads; writes = writes }
 
+-- What a sight shows: what is shared, and the transaction with its logs.
+abbrev pub shared_in : Sight → Shared
+shared_in v = shared_of v.common.now v.cells.now v.marks.now
+
+abbrev pub work_in : {B : Type 0} → B → Sight → Work B
+work_in b v = work_with b v.seated v.reads.now v.writes.now
+
 abbrev pub if_there : {A B : Type 0} → (A → B) → Option A → Option B
 if_there f None = None
 if_there f (Some x) = Some (f x)
@@ -86,8 +94,8 @@ world d l = record {
   helpers = d.helpers;
   sizes = d.sizes;
   shared = shared_of d.common l.cells.now l.marks.now;
-  seats = d.seats;
-  bodies = d.bodies;
+  seats = seats_of d.chairs;
+  bodies = bodies_of d.chairs;
   used = d.used;
   reads = l.reads.now;
   writes = l.writes.now;
@@ -101,8 +109,8 @@ bare d = record {
   helpers = d.helpers;
   sizes = d.sizes;
   shared = shared_of d.common [] [];
-  seats = d.seats;
-  bodies = d.bodies;
+  seats = seats_of d.chairs;
+  bodies = bodies_of d.chairs;
   used = d.used;
   reads = [];
   writes = [];
@@ -139,13 +147,6 @@ bare_open o = record {
 
 -- What a seat that may step is to do, or why it may not.
 module _ {B : Type 0} (m : Ghosts B) where
-  abbrev pub planned : Common → Lists → B → ℕ → Seated → Option Ready
-  planned c l b k s =
-      let work = work_with b s (stretch l.reads.now (reads_from k) s.reads) (stretch l.writes.now (writes_from k) s.writes) in
-      cond (there (length l.cells.now) (entry_of work s.phase))
-      (Some (record { seated = s; step = step_at m (shared_of c l.cells.now l.marks.now) k work s.phase; kind = m.KIND }))
-      None
-
   abbrev pub ready_by : World B → ℕ → Option Seated → Option B → Result Ready StepRefusal
   ready_by w k None b = Err Idle
   ready_by w k (Some s) None = Err Idle

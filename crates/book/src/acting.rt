@@ -1,12 +1,13 @@
 // Takes a step that was decided.
 ghost use Rattle.std.specs.Prelude.{◌≡◌, ◌+◌, ◌^◌, ◌<◌, ◌≤◌, length, Some, None, slice_index_or};
 ghost use Rattle.lane.specs.Calls.{seated_to, step_world};
+ghost use Rattle.book.specs.Chairs.{bodies_of};
 ghost use Rattle.book.specs.Views.{CanAct, moved_with, world};
 
 use super::changing::{change, change_cells, change_marks};
 use super::desk::Desk;
 use super::lists::Lists;
-use super::logging::{log_read, log_write};
+use super::logging::{Used, log};
 use super::ready::Ready;
 use super::recording::{made_after, note, record_of};
 use super::telling::tell;
@@ -16,32 +17,22 @@ use lane::{Seated, Step, Told};
 impl<B: Body> Desk<B> {
     pub(crate) fn act(&mut self, lists: &mut Lists<'_>, seat: u32, ready: Ready)
         requires { CanAct B.Body (world self.old lists.old) seat ready }
-        ensures { (b : B) → slice_index_or self.old.bodies seat None ≡ Some b → world self.new lists.new ≡ step_world B.Body (world self.old lists.old) seat ready.seated b ready.step }
+        ensures { (b : B) → slice_index_or (bodies_of self.old.chairs) seat None ≡ Some b → world self.new lists.new ≡ step_world B.Body (world self.old lists.old) seat ready.seated b ready.step }
     {
-        let step = ready.step;
+        let Ready { seated, step, kind } = ready;
         let at = seat as usize;
-        let room = self.used < self.sizes.journal;
-        let entry = record_of(ready.kind, seat, ready.seated, self.common.number, step);
-        let before = self.used;
-        self.used = note(lists.journal, before, entry);
         let number = self.common.number;
+        let room = self.used < self.sizes.journal;
+        let record = record_of(kind, seat, seated, number, step);
+        self.used = note(lists.journal, self.used, record);
         change_marks(lists.marks, number, step.effect);
         change_cells(lists.cells, step.effect);
         change(&mut self.common, seat, step.effect);
-        let used = Used {
-            reads: log_read(lists.reads, seat, ready.seated, step.log),
-            writes: log_write(lists.writes, seat, ready.seated, step.log),
-        };
-        tell(&mut self.bodies[at], step.told);
-        self.seats[at] = moved(ready.seated, step, used, room);
+        let used = log(lists.reads, lists.writes, seat, seated, step.log);
+        let chair = &mut self.chairs[at];
+        tell(&mut chair.body, step.told);
+        chair.seated = moved(seated, step, used, room);
     }
-}
-
-// How many entries of its logs a seat uses.
-#[derive(Clone, Copy)]
-struct Used {
-    reads: u32,
-    writes: u32,
 }
 
 // What the book knows of the transaction after the step.
@@ -49,22 +40,17 @@ fn moved(seated: Seated, step: Step, used: Used, room: bool) -> Option<Seated>
     requires { seated.made + 1 < 2 ^ 32 }
     ensures { result ≡ seated_to step.next (moved_with seated step used.reads used.writes room) }
 {
+    let phase = step.next?;
     let start = match step.told {
         Told::Restarted(start) => start,
         _ => seated.start,
     };
-    let made = made_after(step.effect, room, seated.made);
-    match step.next {
-        None => None,
-        Some(phase) => Some(Seated {
-            phase,
-            way: seated.way,
-            tag: seated.tag,
-            start,
-            reads: used.reads,
-            writes: used.writes,
-            made,
-            keeps: seated.keeps,
-        }),
-    }
+    Some(Seated {
+        phase,
+        start,
+        reads: used.reads,
+        writes: used.writes,
+        made: made_after(step.effect, room, seated.made),
+        ..seated
+    })
 }

@@ -9,6 +9,7 @@ ghost use Rattle.lane.specs.Runs.{Ran};
 ghost use Rattle.lane.specs.Tellings.{Answered, Tells};
 ghost use Rattle.book.specs.Books.{OpensBook, book_world, pause_answer, resume_answer, resume_refusal_number};
 ghost use Rattle.book.specs.declared.lists.Lists.{Lists as Lent};
+ghost use Rattle.book.specs.Chairs.{bodies_of};
 ghost use Rattle.book.specs.Seatings.{seat_answer};
 
 use super::book::Book;
@@ -61,8 +62,8 @@ impl<B: Body + Drop> Book<B> {
         ensures answer { result ≡ step_reply B.Body (book_world self.old lists.old) seat }
         ensures after { book_world self.new lists.new ≡ (step_call B.Body (book_world self.old lists.old) seat).world }
         ensures law { KeepsLaw B.Body (book_world self.old lists.old) (step_call B.Body (book_world self.old lists.old) seat) (book_world self.new lists.new) }
-        ensures tells { Tells B.Body (step_call B.Body (book_world self.old lists.old) seat).moment.call self.old.desk.bodies self.new.desk.bodies }
-        ensures answers { (o : Opening) (h : History B) → Ran B.Body o h (book_world self.old lists.old) → Answered B.Body (step_call B.Body (book_world self.old lists.old) seat).moment.call self.old.desk.bodies }
+        ensures tells { Tells B.Body (step_call B.Body (book_world self.old lists.old) seat).moment.call (bodies_of self.old.desk.chairs) (bodies_of self.new.desk.chairs) }
+        ensures answers { (o : Opening) (h : History B) → Ran B.Body o h (book_world self.old lists.old) → Answered B.Body (step_call B.Body (book_world self.old lists.old) seat).moment.call (bodies_of self.old.desk.chairs) }
     {
         let ready = self.ready(lists, seat)?;
         self.desk.act(lists, seat, ready);

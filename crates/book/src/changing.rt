@@ -8,7 +8,7 @@ ghost use Rattle.book.specs.Views.{cells_after, marks_after, shared_of};
 use super::common::Common;
 use lane::Effect;
 
-// The word and the queue.
+// The word and the queue. What the machine's definitions promise of a step names its effect, which a closure has no name for.
 pub(crate) fn change(common: &mut Common, seat: u32, effect: Effect)
     requires small { common.old.number + 1 < 2 ^ 32 }
     requires lowers { effect ≡ NumberLowered → 0 < common.old.number }
@@ -16,14 +16,12 @@ pub(crate) fn change(common: &mut Common, seat: u32, effect: Effect)
     ensures { shared_of common.new [] [] ≡ shared_after seat effect (shared_of common.old [] []) }
 {
     match effect {
-        Effect::Unchanged => {}
+        Effect::Unchanged | Effect::MarkSet(_) | Effect::CellSet(_, _) => {}
         Effect::FlagSet => common.flag = true,
         Effect::LaneTaken => {
             common.number += 1;
             common.flag = false;
         }
-        Effect::MarkSet(_) => {}
-        Effect::CellSet(_, _) => {}
         Effect::NumberRaised => common.number += 1,
         Effect::NumberLowered => common.number -= 1,
         Effect::QueueJoined => common.queue.join(seat),

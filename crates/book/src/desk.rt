@@ -1,7 +1,8 @@
 // All that a book knows beside its lists.
+use super::chair::Chair;
 use super::common::Common;
 use super::limits::SEATS;
-use lane::{Seated, Sizes};
+use lane::Sizes;
 
 #[derive(Drop)]
 pub(crate) struct Desk<B> {
@@ -9,10 +10,7 @@ pub(crate) struct Desk<B> {
     pub helpers: u32,
     pub sizes: Sizes,
     pub common: Common,
-    // The transaction at each seat. An idle seat has none.
-    pub seats: [Option<Seated>; SEATS],
-    // The body of the transaction at each seat, or of its last one.
-    pub bodies: [Option<B>; SEATS],
+    pub chairs: [Chair<B>; SEATS],
     // How many records of the journal are used.
     pub used: usize,
 }

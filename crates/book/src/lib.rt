@@ -4,6 +4,7 @@
 mod acting;
 mod book;
 mod calls;
+mod chair;
 mod changing;
 mod common;
 mod deciding;
@@ -18,6 +19,7 @@ mod ready;
 mod recording;
 mod refused;
 mod seating;
+mod sight;
 mod status;
 mod telling;
 mod ticket;

@@ -8,49 +8,58 @@ use super::limits::{MOST_READS, MOST_WRITES};
 use lane::{LogChange, Seated, Written};
 use logs::Entry;
 
-// The seat's read log after a step. Answers how many entries it has then.
-pub(crate) fn log_read(reads: &mut [u32], seat: u32, seated: Seated, change: LogChange) -> u32
-    requires { ReadsFit change seat seated reads.old }
-    ensures laid { reads.new ≡ reads_laid change (stretch reads.old (reads_from seat) seated.reads) (reads_from seat) reads.old }
-    ensures counted { result ≡ reads_used change (stretch reads.old (reads_from seat) seated.reads) seated.reads }
-{
-    match change {
-        LogChange::Emptied => 0,
-        LogChange::Noted(cell) => enter(
-            reads,
-            MOST_READS * (seat as usize - 1),
-            MOST_READS,
-            seated.reads,
-            cell,
-        ),
-        _ => seated.reads,
-    }
+// How many entries of its logs a seat uses.
+#[derive(Clone, Copy)]
+pub(crate) struct Used {
+    pub reads: u32,
+    pub writes: u32,
 }
 
-// The seat's write log after a step. Answers how many entries it has then.
-pub(crate) fn log_write(writes: &mut [Written], seat: u32, seated: Seated, change: LogChange) -> u32
-    requires { WritesFit change seat seated writes.old }
-    ensures laid { writes.new ≡ writes_laid change (stretch writes.old (writes_from seat) seated.writes) (writes_from seat) writes.old }
-    ensures counted { result ≡ writes_used change (stretch writes.old (writes_from seat) seated.writes) seated.writes }
+// The seat's logs after a step.
+pub(crate) fn log(
+    reads: &mut [u32],
+    writes: &mut [Written],
+    seat: u32,
+    seated: Seated,
+    change: LogChange,
+) -> Used
+    requires reads_fit { ReadsFit change seat seated reads.old }
+    requires writes_fit { WritesFit change seat seated writes.old }
+    ensures reads_laid { reads.new ≡ reads_laid change (stretch reads.old (reads_from seat) seated.reads) (reads_from seat) reads.old }
+    ensures reads_counted { result.reads ≡ reads_used change (stretch reads.old (reads_from seat) seated.reads) seated.reads }
+    ensures writes_laid { writes.new ≡ writes_laid change (stretch writes.old (writes_from seat) seated.writes) (writes_from seat) writes.old }
+    ensures writes_counted { result.writes ≡ writes_used change (stretch writes.old (writes_from seat) seated.writes) seated.writes }
 {
+    let before = Used {
+        reads: seated.reads,
+        writes: seated.writes,
+    };
     match change {
-        LogChange::Emptied => 0,
-        LogChange::Entered(cell, amount) => {
-            let entry = Written { cell, amount };
-            enter(
-                writes,
-                MOST_WRITES * (seat as usize - 1),
-                MOST_WRITES,
-                seated.writes,
-                entry,
-            )
+        LogChange::Same => before,
+        LogChange::Emptied => Used {
+            reads: 0,
+            writes: 0,
+        },
+        LogChange::Noted(cell) => {
+            let base = MOST_READS * (seat as usize - 1);
+            Used {
+                reads: enter(reads, base, MOST_READS, seated.reads, cell),
+                ..before
+            }
         }
-        _ => seated.writes,
+        LogChange::Entered(cell, amount) => {
+            let base = MOST_WRITES * (seat as usize - 1);
+            let entry = Written { cell, amount };
+            Used {
+                writes: enter(writes, base, MOST_WRITES, seated.writes, entry),
+                ..before
+            }
+        }
     }
 }
 
 // The entry goes to the log that lies in the list from `base` on. Answers how many entries the log has then.
-pub(crate) fn enter<E: Entry>(list: &mut [E], base: usize, size: usize, used: u32, entry: E) -> u32
+fn enter<E: Entry>(list: &mut [E], base: usize, size: usize, used: u32, entry: E) -> u32
     requires within { base + size ≤ length list.old }
     requires few { used ≤ size }
     requires small { size ≤ 64 }

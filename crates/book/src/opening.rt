@@ -4,10 +4,11 @@ ghost use Rattle.std.specs.Result.{result_err};
 ghost use Rattle.lane.specs.Calls.{open_refusal, some_beyond};
 ghost use Rattle.book.specs.Views.{bare, bare_open, opened_with};
 
+use super::chair::Chair;
 use super::common::Common;
 use super::desk::Desk;
 use super::limits::{
-    MOST_CELLS, MOST_HELPERS, MOST_MARKS, MOST_READS, MOST_RECORDS, MOST_WRITES, SEATS, TOP_NUMBER,
+    MOST_CELLS, MOST_HELPERS, MOST_MARKS, MOST_READS, MOST_RECORDS, MOST_WRITES, TOP_NUMBER,
 };
 use super::lists::Lists;
 use lane::{OpenRefusal, Sizes};
@@ -70,8 +71,17 @@ impl Terms {
                 paused: false,
                 queue: Queue::new(),
             },
-            seats: [None; SEATS],
-            bodies: [None, None, None, None, None, None, None, None, None],
+            chairs: [
+                Chair::empty(),
+                Chair::empty(),
+                Chair::empty(),
+                Chair::empty(),
+                Chair::empty(),
+                Chair::empty(),
+                Chair::empty(),
+                Chair::empty(),
+                Chair::empty(),
+            ],
             used: 0,
         }
     }

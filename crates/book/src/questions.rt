@@ -3,9 +3,11 @@ ghost use Rattle.std.specs.Prelude.{◌≡◌, ◌≤◌, length, take, None, sl
 ghost use Rattle.journal.specs.Refusals.{WritesLine};
 ghost use Rattle.book.specs.Questions.{seat_bit, seat_word};
 ghost use Rattle.book.specs.Standing.{status_of};
+ghost use Rattle.book.specs.Chairs.{bodies_of, seats_of};
 ghost use Rattle.book.specs.Views.{if_there};
 
 use super::book::Book;
+use super::chair::Chair;
 use super::lists::Lists;
 use super::status::Status;
 use body::Body;
@@ -17,7 +19,7 @@ impl<B: Body> Book<B> {
     pub fn status(&self) -> Status
         ensures { result ≡ status_of self.now }
     {
-        let word = seat_word(&self.desk.seats);
+        let word = seat_word(&self.desk.chairs);
         let count = word.count_ones();
         Status {
             number: self.desk.common.number,
@@ -32,7 +34,7 @@ impl<B: Body> Book<B> {
 
     // The body at a seat: of its transaction or, at an idle seat, of its last one.
     pub fn body(&self, seat: u32) -> Option<&B>
-        ensures { if_there (λ x. x.now) result ≡ slice_index_or self.now.desk.bodies seat None }
+        ensures { if_there (λ x. x.now) result ≡ slice_index_or (bodies_of self.now.desk.chairs) seat None }
     {
         self.desk.body_at(seat)
     }
@@ -54,25 +56,27 @@ impl<B: Body> Book<B> {
 }
 
 // The seats under way as a word.
-fn seat_word(seats: &[Option<Seated>]) -> u32
-    requires { length seats.now ≤ 9 }
-    ensures { result ≡ seat_word seats.now }
+fn seat_word<B>(chairs: &[Chair<B>]) -> u32
+    requires { length chairs.now ≤ 9 }
+    ensures { result ≡ seat_word (seats_of chairs.now) }
 {
-    seats
+    chairs
         .iter()
         .rev()
-        .fold(0, |word, seat| word << 1 | bit(*seat))
+        .fold(0, |word, chair| word << 1 | bit(chair.seated))
 }
 
 fn bit(seat: Option<Seated>) -> u32
     ensures { result ≡ seat_bit seat }
 {
-    let Some(seated) = seat else {
-        return 0;
-    };
-    match seated.phase {
-        Phase::Reserve => 0,
-        Phase::Begin => 0,
-        _ => 1,
+    match seat {
+        None => 0,
+        Some(
+            Seated {
+                phase: Phase::Reserve | Phase::Begin,
+                ..
+            },
+        ) => 0,
+        Some(_) => 1,
     }
 }

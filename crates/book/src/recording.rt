@@ -47,7 +47,7 @@ pub(crate) fn made_after(effect: Effect, room: bool, made: u32) -> u32
     ensures { result ≡ made_by effect room made }
 {
     match effect {
-        Effect::CellSet(_, _) => { if room { made + 1 } else { made } }
+        Effect::CellSet(_, _) if room => made + 1,
         _ => made,
     }
 }

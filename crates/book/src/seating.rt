@@ -2,9 +2,11 @@
 ghost use Rattle.std.specs.Prelude.{◌≡◌, ℕ, ◌+◌, ◌-◌, ◌^◌, ◌<◌, ◌≤◌, min, not, length, nat_lt};
 ghost use Rattle.std.specs.Result.{IfOk, result_err};
 ghost use Rattle.lane.specs.Calls.{first_phase, kept, kept_by, needed, seat_refusal, seat_world, taken_way, way_of};
+ghost use Rattle.book.specs.Chairs.{seats_of};
 ghost use Rattle.book.specs.Views.{bare};
 
 use super::book::Book;
+use super::chair::Chair;
 use super::desk::Desk;
 use super::limits::{MOST_WRITES, TOP_NUMBER};
 use body::Body;
@@ -45,17 +47,19 @@ impl<B: Body + Drop> Desk<B> {
     {
         let at = seat as usize;
         let keeps = records_needed(seat, body.length_of()) as u32;
-        self.seats[at] = Some(Seated {
-            phase: first_phase(seat),
-            way,
-            tag,
-            start: 0,
-            reads: 0,
-            writes: 0,
-            made: 0,
-            keeps,
-        });
-        self.bodies[at] = Some(body);
+        self.chairs[at] = Chair {
+            seated: Some(Seated {
+                phase: first_phase(seat),
+                way,
+                tag,
+                start: 0,
+                reads: 0,
+                writes: 0,
+                made: 0,
+                keeps,
+            }),
+            body: Some(body),
+        };
     }
 }
 
@@ -63,9 +67,9 @@ impl<B> Desk<B> {
     // Whether too few records are left for a transaction of this length.
     fn lacks_records(&self, seat: u32, length: usize) -> bool
         requires { self.now.sizes.journal ≤ 65536 }
-        ensures { result ≡ nat_lt self.now.sizes.journal (self.now.used + kept self.now.seats + needed seat length) }
+        ensures { result ≡ nat_lt self.now.sizes.journal (self.now.used + kept (seats_of self.now.chairs) + needed seat length) }
     {
-        let kept = records_kept(&self.seats);
+        let kept = records_kept(&self.chairs);
         let needed = records_needed(seat, length);
         self.used.saturating_add(kept).saturating_add(needed) > self.sizes.journal
     }
@@ -86,13 +90,12 @@ fn first_phase(seat: u32) -> Phase
 fn way(seat: u32, number: u32) -> Option<Way>
     ensures { result ≡ way_of seat number }
 {
-    if seat == 0 {
-        return if number == 0 { Some(Way::One) } else { None };
-    }
-    match number {
-        1 => Some(Way::One),
-        2 => Some(Way::Two),
-        3 => Some(Way::Three),
+    match (seat, number) {
+        (0, 0) => Some(Way::One),
+        (0, _) => None,
+        (_, 1) => Some(Way::One),
+        (_, 2) => Some(Way::Two),
+        (_, 3) => Some(Way::Three),
         _ => None,
     }
 }
@@ -109,23 +112,29 @@ fn records_needed(seat: u32, length: usize) -> usize
 }
 
 // The records that the seated transactions keep.
-#[tactic(auto, using(crate::proofs::Keeps::kept_is))]
-fn records_kept(seats: &[Option<Seated>]) -> usize
-    requires { length seats.now ≤ 9 }
-    ensures { result ≡ kept seats.now }
+#[tactic(auto, using(crate::proofs::Chairing::kept_is))]
+fn records_kept<B>(chairs: &[Chair<B>]) -> usize
+    requires { length chairs.now ≤ 9 }
+    ensures { result ≡ kept (seats_of chairs.now) }
 {
-    seats.iter().map(|seat| keeps(*seat) as usize).sum()
+    chairs
+        .iter()
+        .map(|chair| keeps(chair.seated) as usize)
+        .sum()
 }
 
 // What the transaction at a seat keeps. One that is only to leave the queue has committed, and keeps nothing.
 fn keeps(seat: Option<Seated>) -> u32
     ensures { result ≡ kept_by seat }
 {
-    let Some(seated) = seat else {
-        return 0;
-    };
-    match seated.phase {
-        Phase::Leave => 0,
-        _ => seated.keeps,
+    match seat {
+        None => 0,
+        Some(
+            Seated {
+                phase: Phase::Leave,
+                ..
+            },
+        ) => 0,
+        Some(seated) => seated.keeps,
     }
 }

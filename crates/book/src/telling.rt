@@ -6,6 +6,7 @@ ghost use Rattle.book.specs.Views.{if_there};
 use body::Body;
 use lane::Told;
 
+// The history keeps what was told, and the promise of a step names it, so that it is an enum and no closure.
 pub(crate) fn tell<B: Body>(body: &mut Option<B>, told: Told)
     ensures { body.new ≡ if_there (body_after B.Body told) body.old }
 {

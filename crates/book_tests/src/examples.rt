@@ -1,13 +1,16 @@
 // The worked examples of docs/MACHINE.md. Those of 1 to 5 are run with totals of one cell, which read it and put its amount into
 // another: a helper's takes three steps more than a put alone, two for the read and one to validate it.
-use super::plans::{Plan, play_all, turns};
-use super::shelf::{Lengths, Shelf, cells_of, holds, lay, open_on, sits, step_on};
+use super::plans::Turn::{BreaksOff, Commits, GivesUp, GoesOn, Waits};
+use super::plans::{
+    Chair, FIRST_INTO_LAST, FIRST_INTO_SECOND, Plan, SECOND_INTO_FIRST, SECOND_INTO_THIRD, Seat,
+    THIRD_INTO_SECOND, Tag, Times, Way, play_all, turns,
+};
+use super::shelf::{Lengths, Shelf, filled, holds, lay, open_on, sits, step_on};
 use body::{Body, Import, Total};
 use book::Book;
 use imports::check as check_text;
 use journal::Record;
 use journal::Record::{Change, Commit};
-use lane::Answer::{BrokenOff, Committed, GoneOn, TooLong, Waiting};
 use lane::StepRefusal;
 use money::{Code, read_amount};
 use std::alloc::Global;
@@ -85,12 +88,15 @@ const TEN_LAST: Record = Change {
 const PLANS: &[Plan] = &[
     Plan {
         words: "1: the master",
-        chairs: &[(0, 0, 5, (0, 0, 1)), (1, 1, 6, (0, 0, 3))],
+        chairs: &[
+            Chair(Seat(0), Way(0), Tag(5), FIRST_INTO_SECOND),
+            Chair(Seat(1), Way(1), Tag(6), FIRST_INTO_LAST),
+        ],
         turns: &[
-            (0, 6, GoneOn),
-            (0, 1, Committed(1)),
-            (1, 10, GoneOn),
-            (1, 1, Committed(3)),
+            GoesOn(Seat(0), Times(6)),
+            Commits(Seat(0), 1),
+            GoesOn(Seat(1), Times(10)),
+            Commits(Seat(1), 3),
         ],
         cells: &[10, 10, 30, 10],
         marks: &[0, 3],
@@ -98,22 +104,25 @@ const PLANS: &[Plan] = &[
     },
     Plan {
         words: "1: the mark before the cell",
-        chairs: &[(0, 0, 5, (0, 0, 1))],
-        turns: &[(0, 5, GoneOn)],
+        chairs: &[Chair(Seat(0), Way(0), Tag(5), FIRST_INTO_SECOND)],
+        turns: &[GoesOn(Seat(0), Times(5))],
         cells: &[10, 20, 30, 40],
         marks: &[0, 1],
         records: &[],
     },
     Plan {
         words: "2: a helper meets the master",
-        chairs: &[(0, 0, 5, (1, 1, 0)), (1, 1, 6, (0, 0, 3))],
+        chairs: &[
+            Chair(Seat(0), Way(0), Tag(5), SECOND_INTO_FIRST),
+            Chair(Seat(1), Way(1), Tag(6), FIRST_INTO_LAST),
+        ],
         turns: &[
-            (1, 2, GoneOn),
-            (0, 6, GoneOn),
-            (0, 1, Committed(1)),
-            (1, 1, BrokenOff),
-            (1, 10, GoneOn),
-            (1, 1, Committed(3)),
+            GoesOn(Seat(1), Times(2)),
+            GoesOn(Seat(0), Times(6)),
+            Commits(Seat(0), 1),
+            BreaksOff(Seat(1)),
+            GoesOn(Seat(1), Times(10)),
+            Commits(Seat(1), 3),
         ],
         cells: &[20, 20, 30, 20],
         marks: &[1, 3],
@@ -121,12 +130,15 @@ const PLANS: &[Plan] = &[
     },
     Plan {
         words: "3: a shared mark",
-        chairs: &[(0, 0, 5, (1, 1, 2)), (1, 1, 6, (0, 0, 3))],
+        chairs: &[
+            Chair(Seat(0), Way(0), Tag(5), SECOND_INTO_THIRD),
+            Chair(Seat(1), Way(1), Tag(6), FIRST_INTO_LAST),
+        ],
         turns: &[
-            (1, 2, GoneOn),
-            (0, 6, GoneOn),
-            (0, 1, Committed(1)),
-            (1, 1, BrokenOff),
+            GoesOn(Seat(1), Times(2)),
+            GoesOn(Seat(0), Times(6)),
+            Commits(Seat(0), 1),
+            BreaksOff(Seat(1)),
         ],
         cells: &[10, 20, 20, 40],
         marks: &[1, 0],
@@ -134,12 +146,15 @@ const PLANS: &[Plan] = &[
     },
     Plan {
         words: "3: another mark",
-        chairs: &[(0, 0, 5, (0, 0, 1)), (1, 1, 6, (0, 0, 3))],
+        chairs: &[
+            Chair(Seat(0), Way(0), Tag(5), FIRST_INTO_SECOND),
+            Chair(Seat(1), Way(1), Tag(6), FIRST_INTO_LAST),
+        ],
         turns: &[
-            (1, 2, GoneOn),
-            (0, 6, GoneOn),
-            (0, 1, Committed(1)),
-            (1, 1, GoneOn),
+            GoesOn(Seat(1), Times(2)),
+            GoesOn(Seat(0), Times(6)),
+            Commits(Seat(0), 1),
+            GoesOn(Seat(1), Times(1)),
         ],
         cells: &[10, 10, 30, 40],
         marks: &[0, 1],
@@ -147,24 +162,34 @@ const PLANS: &[Plan] = &[
     },
     Plan {
         words: "4: the flag is not in the mark",
-        chairs: &[(0, 0, 5, (2, 2, 1)), (1, 1, 6, (1, 1, 0))],
-        turns: &[(1, 8, GoneOn), (0, 1, GoneOn), (1, 1, GoneOn)],
+        chairs: &[
+            Chair(Seat(0), Way(0), Tag(5), THIRD_INTO_SECOND),
+            Chair(Seat(1), Way(1), Tag(6), SECOND_INTO_FIRST),
+        ],
+        turns: &[
+            GoesOn(Seat(1), Times(8)),
+            GoesOn(Seat(0), Times(1)),
+            GoesOn(Seat(1), Times(1)),
+        ],
         cells: &[10, 20, 30, 40],
         marks: &[1, 0],
         records: &[],
     },
     Plan {
         words: "4: to the end",
-        chairs: &[(0, 0, 5, (2, 2, 1)), (1, 1, 6, (1, 1, 0))],
+        chairs: &[
+            Chair(Seat(0), Way(0), Tag(5), THIRD_INTO_SECOND),
+            Chair(Seat(1), Way(1), Tag(6), SECOND_INTO_FIRST),
+        ],
         turns: &[
-            (1, 8, GoneOn),
-            (0, 1, GoneOn),
-            (1, 1, GoneOn),
-            (0, 1, Waiting),
-            (1, 1, GoneOn),
-            (1, 1, Committed(1)),
-            (0, 5, GoneOn),
-            (0, 1, Committed(3)),
+            GoesOn(Seat(1), Times(8)),
+            GoesOn(Seat(0), Times(1)),
+            GoesOn(Seat(1), Times(1)),
+            Waits(Seat(0), Times(1)),
+            GoesOn(Seat(1), Times(1)),
+            Commits(Seat(1), 1),
+            GoesOn(Seat(0), Times(5)),
+            Commits(Seat(0), 3),
         ],
         cells: &[20, 30, 30, 40],
         marks: &[1, 3],
@@ -172,8 +197,8 @@ const PLANS: &[Plan] = &[
     },
     Plan {
         words: "5: a helper, way 1",
-        chairs: &[(1, 1, 6, (1, 1, 0))],
-        turns: &[(1, 10, GoneOn), (1, 1, Committed(1))],
+        chairs: &[Chair(Seat(1), Way(1), Tag(6), SECOND_INTO_FIRST)],
+        turns: &[GoesOn(Seat(1), Times(10)), Commits(Seat(1), 1)],
         cells: &[20, 20, 30, 40],
         marks: &[1, 0],
         records: &[TWENTY_FIRST, HELPER_DONE],
@@ -192,7 +217,7 @@ fn too_long(rt: &impl Abort, book: &mut Book<Total>, lists: &mut Shelf) -> Resul
         rt,
         book,
         lists,
-        &[(1, 130, GoneOn), (1, 1, TooLong)],
+        &[GoesOn(Seat(1), Times(130)), GivesUp(Seat(1))],
         "6: too long",
     )?;
     assert_eq!(rt; step_on(book, lists, 1), Err(StepRefusal::Idle));
@@ -210,7 +235,7 @@ const ROOM: Lengths = Lengths {
 #[test]
 fn example_6(rt: HostRuntime) -> Result<(), Fail> {
     let heap = rt.alloc();
-    let cells = cells_of(heap, 0, 65)?;
+    let cells = filled(heap, 0, 65)?;
     let mut lists = lay(heap, cells.as_slice(), ROOM)?;
     let mut book: Book<Total> = open_on(&mut lists, 1, 8, 0)?;
     too_long(&rt, &mut book, &mut lists)?;
@@ -230,10 +255,7 @@ const AMOUNTS: [(&str, Result<i64, u32>); 4] = [
 fn examples_7_and_8(rt: HostRuntime) -> Result<(), Fail> {
     let code = Code::new("DKK".as_bytes()).ok_or("no code")?;
     for (field, expected) in AMOUNTS {
-        let answer = match read_amount(code, field.as_bytes()) {
-            Ok(amount) => Ok(amount),
-            Err(fault) => Err(fault.number()),
-        };
+        let answer = read_amount(code, field.as_bytes()).map_err(|fault| fault.number());
         assert_eq!(rt; answer, expected, "{}", field);
     }
     Ok(())

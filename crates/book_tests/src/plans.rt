@@ -8,11 +8,106 @@ use std::alloc::Global;
 use std::process::Abort;
 use std::test::Fail;
 
-// A seat, how many steps it takes, and what each of them answers.
-pub type Turn = (u32, u32, Answer);
+#[derive(Clone, Copy)]
+pub struct Seat(pub u32);
 
-// A seat, its way, its tag, and its total: the first and the last cell, and the target.
-pub type Chair = (u32, u32, u32, (u32, u32, u32));
+// A way by its number.
+#[derive(Clone, Copy)]
+pub struct Way(pub u32);
+
+#[derive(Clone, Copy)]
+pub struct Tag(pub u32);
+
+#[derive(Clone, Copy)]
+pub struct Times(pub u32);
+
+// A total, by its first and last cell and its target.
+#[derive(Clone, Copy)]
+pub struct Sum {
+    pub first: u32,
+    pub last: u32,
+    pub target: u32,
+}
+
+pub const FIRST_INTO_SECOND: Sum = Sum {
+    first: 0,
+    last: 0,
+    target: 1,
+};
+
+pub const FIRST_INTO_THIRD: Sum = Sum {
+    first: 0,
+    last: 0,
+    target: 2,
+};
+
+pub const FIRST_INTO_LAST: Sum = Sum {
+    first: 0,
+    last: 0,
+    target: 3,
+};
+
+pub const SECOND_INTO_FIRST: Sum = Sum {
+    first: 1,
+    last: 1,
+    target: 0,
+};
+
+pub const SECOND_INTO_THIRD: Sum = Sum {
+    first: 1,
+    last: 1,
+    target: 2,
+};
+
+pub const THIRD_INTO_SECOND: Sum = Sum {
+    first: 2,
+    last: 2,
+    target: 1,
+};
+
+// Who is seated, and what is put where.
+#[derive(Clone, Copy)]
+pub struct Chair(pub Seat, pub Way, pub Tag, pub Sum);
+
+// A seat takes so many steps, and each of them answers so. A commit is one step, and tells its number.
+#[derive(Clone, Copy)]
+pub enum Turn {
+    GoesOn(Seat, Times),
+    Waits(Seat, Times),
+    BreaksOff(Seat),
+    GivesUp(Seat),
+    Commits(Seat, u32),
+}
+
+impl Turn {
+    fn seat(self) -> u32 {
+        match self {
+            Turn::GoesOn(seat, _) => seat.0,
+            Turn::Waits(seat, _) => seat.0,
+            Turn::BreaksOff(seat) => seat.0,
+            Turn::GivesUp(seat) => seat.0,
+            Turn::Commits(seat, _) => seat.0,
+        }
+    }
+
+    fn times(self) -> u32 {
+        match self {
+            Turn::GoesOn(_, times) => times.0,
+            Turn::Waits(_, times) => times.0,
+            _ => 1,
+        }
+    }
+
+    fn answer(self) -> Answer {
+        match self {
+            Turn::GoesOn(_, _) => Answer::GoneOn,
+            Turn::Waits(_, _) => Answer::Waiting,
+            Turn::BreaksOff(_) => Answer::BrokenOff,
+            Turn::GivesUp(_) => Answer::TooLong,
+            Turn::Commits(_, number) => Answer::Committed(number),
+        }
+    }
+}
 
 #[derive(Clone, Copy)]
 pub struct Plan {
@@ -44,23 +139,30 @@ pub(crate) fn turns<B: Body + Drop>(
     words: &str,
 ) -> Result<(), Fail> {
     for turn in table {
-        let (seat, times, answer) = *turn;
-        for _ in 0..times {
-            assert_eq!(rt; step_on(book, shelf, seat)?, answer, "{words}");
+        for _ in 0..turn.times() {
+            assert_eq!(rt;
+                step_on(book, shelf, turn.seat())?,
+                turn.answer(),
+                "{words}"
+            );
         }
     }
     Ok(())
 }
 
+pub(crate) fn total(sum: Sum) -> Result<Total, Fail> {
+    Ok(Total::new(sum.first, sum.last, sum.target)?)
+}
+
 fn sit_all(book: &mut Book<Total>, chairs: &[Chair]) -> Result<(), Fail> {
     for chair in chairs {
-        let (seat, way, tag, cells) = *chair;
-        sits(book, seat, way, tag, Total::new(cells.0, cells.1, cells.2)?)?;
+        let Chair(seat, way, tag, sum) = *chair;
+        sits(book, seat.0, way.0, tag.0, total(sum)?)?;
     }
     Ok(())
 }
 
-fn play(rt: &impl Abort, heap: Global, plan: Plan) -> Result<(), Fail> {
+fn play(rt: &impl Abort, heap: Global, plan: &Plan) -> Result<(), Fail> {
     let mut lists = lay(heap, &FOUR, LENGTHS)?;
     let mut book: Book<Total> = open_on(&mut lists, 1, 8, 0)?;
     sit_all(&mut book, plan.chairs)?;
@@ -71,7 +173,7 @@ fn play(rt: &impl Abort, heap: Global, plan: Plan) -> Result<(), Fail> {
 
 pub(crate) fn play_all(rt: &impl Abort, heap: Global, plans: &[Plan]) -> Result<(), Fail> {
     for plan in plans {
-        play(rt, heap, *plan)?;
+        play(rt, heap, plan)?;
     }
     Ok(())
 }

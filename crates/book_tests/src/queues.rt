@@ -1,8 +1,11 @@
 // Helpers of the ways 2 and 3, which queue before they take the lane.
-use super::plans::{Plan, Turn, play_all};
+use super::plans::Turn::{BreaksOff, Commits, GoesOn, Waits};
+use super::plans::{
+    Chair, FIRST_INTO_SECOND, FIRST_INTO_THIRD, Plan, SECOND_INTO_THIRD, Seat, Tag, Times, Turn,
+    Way, play_all,
+};
 use journal::Record;
 use journal::Record::{Change, Commit};
-use lane::Answer::{BrokenOff, Committed, GoneOn, Waiting};
 use std::test::Fail;
 
 const FIRST_MADE: Record = Change {
@@ -44,46 +47,46 @@ const MASTER_DONE: Record = Commit {
 // Both join, in the order of their seats. The second waits until the first has left, which is a step after its commit. From
 // its turn on each waits no more, looks, finds its two entries fresh, swaps, and sets mark and cell.
 const ONE_BY_ONE: &[Turn] = &[
-    (1, 5, GoneOn),
-    (2, 5, GoneOn),
-    (2, 2, Waiting),
-    (1, 3, GoneOn),
-    (2, 1, Waiting),
-    (1, 4, GoneOn),
-    (2, 1, Waiting),
-    (1, 1, Committed(1)),
-    (2, 1, Waiting),
-    (1, 1, GoneOn),
-    (2, 7, GoneOn),
-    (2, 1, Committed(3)),
-    (2, 1, GoneOn),
+    GoesOn(Seat(1), Times(5)),
+    GoesOn(Seat(2), Times(5)),
+    Waits(Seat(2), Times(2)),
+    GoesOn(Seat(1), Times(3)),
+    Waits(Seat(2), Times(1)),
+    GoesOn(Seat(1), Times(4)),
+    Waits(Seat(2), Times(1)),
+    Commits(Seat(1), 1),
+    Waits(Seat(2), Times(1)),
+    GoesOn(Seat(1), Times(1)),
+    GoesOn(Seat(2), Times(7)),
+    Commits(Seat(2), 3),
+    GoesOn(Seat(2), Times(1)),
 ];
 
 // The second has read the cell that the first writes. It finds this before it takes the lane, leaves the queue, and begins
 // anew.
 const BEGUN_ANEW: &[Turn] = &[
-    (1, 5, GoneOn),
-    (2, 5, GoneOn),
-    (2, 1, Waiting),
-    (1, 7, GoneOn),
-    (1, 1, Committed(1)),
-    (1, 1, GoneOn),
-    (2, 3, GoneOn),
-    (2, 1, BrokenOff),
-    (2, 12, GoneOn),
-    (2, 1, Committed(3)),
-    (2, 1, GoneOn),
+    GoesOn(Seat(1), Times(5)),
+    GoesOn(Seat(2), Times(5)),
+    Waits(Seat(2), Times(1)),
+    GoesOn(Seat(1), Times(7)),
+    Commits(Seat(1), 1),
+    GoesOn(Seat(1), Times(1)),
+    GoesOn(Seat(2), Times(3)),
+    BreaksOff(Seat(2)),
+    GoesOn(Seat(2), Times(12)),
+    Commits(Seat(2), 3),
+    GoesOn(Seat(2), Times(1)),
 ];
 
 // The master commits between the look and the swap. The swap fails; the helper looks again, and its entries are looked at
 // again, after the swap in way 2 and before it in way 3.
 const OVERTAKEN: &[Turn] = &[
-    (2, 9, GoneOn),
-    (0, 6, GoneOn),
-    (0, 1, Committed(1)),
-    (2, 7, GoneOn),
-    (2, 1, Committed(3)),
-    (2, 1, GoneOn),
+    GoesOn(Seat(2), Times(9)),
+    GoesOn(Seat(0), Times(6)),
+    Commits(Seat(0), 1),
+    GoesOn(Seat(2), Times(7)),
+    Commits(Seat(2), 3),
+    GoesOn(Seat(2), Times(1)),
 ];
 
 const BOTH: &[Record] = &[FIRST_MADE, FIRST_DONE, SECOND_MADE, SECOND_DONE];
@@ -93,7 +96,10 @@ const WITH_MASTER: &[Record] = &[FIRST_MADE, MASTER_DONE, SECOND_MADE, SECOND_DO
 const PLANS: &[Plan] = &[
     Plan {
         words: "ways 2 and 3",
-        chairs: &[(1, 2, 21, (0, 0, 1)), (2, 3, 22, (0, 0, 2))],
+        chairs: &[
+            Chair(Seat(1), Way(2), Tag(21), FIRST_INTO_SECOND),
+            Chair(Seat(2), Way(3), Tag(22), FIRST_INTO_THIRD),
+        ],
         turns: ONE_BY_ONE,
         cells: &[10, 10, 10, 40],
         marks: &[3, 1],
@@ -101,7 +107,10 @@ const PLANS: &[Plan] = &[
     },
     Plan {
         words: "ways 3 and 2",
-        chairs: &[(1, 3, 21, (0, 0, 1)), (2, 2, 22, (0, 0, 2))],
+        chairs: &[
+            Chair(Seat(1), Way(3), Tag(21), FIRST_INTO_SECOND),
+            Chair(Seat(2), Way(2), Tag(22), FIRST_INTO_THIRD),
+        ],
         turns: ONE_BY_ONE,
         cells: &[10, 10, 10, 40],
         marks: &[3, 1],
@@ -109,7 +118,10 @@ const PLANS: &[Plan] = &[
     },
     Plan {
         words: "ways 2 and 2",
-        chairs: &[(1, 2, 21, (0, 0, 1)), (2, 2, 22, (0, 0, 2))],
+        chairs: &[
+            Chair(Seat(1), Way(2), Tag(21), FIRST_INTO_SECOND),
+            Chair(Seat(2), Way(2), Tag(22), FIRST_INTO_THIRD),
+        ],
         turns: ONE_BY_ONE,
         cells: &[10, 10, 10, 40],
         marks: &[3, 1],
@@ -117,7 +129,10 @@ const PLANS: &[Plan] = &[
     },
     Plan {
         words: "ways 3 and 3",
-        chairs: &[(1, 3, 21, (0, 0, 1)), (2, 3, 22, (0, 0, 2))],
+        chairs: &[
+            Chair(Seat(1), Way(3), Tag(21), FIRST_INTO_SECOND),
+            Chair(Seat(2), Way(3), Tag(22), FIRST_INTO_THIRD),
+        ],
         turns: ONE_BY_ONE,
         cells: &[10, 10, 10, 40],
         marks: &[3, 1],
@@ -125,7 +140,10 @@ const PLANS: &[Plan] = &[
     },
     Plan {
         words: "ways 2 and 3, the second begins anew",
-        chairs: &[(1, 2, 21, (0, 0, 1)), (2, 3, 22, (1, 1, 2))],
+        chairs: &[
+            Chair(Seat(1), Way(2), Tag(21), FIRST_INTO_SECOND),
+            Chair(Seat(2), Way(3), Tag(22), SECOND_INTO_THIRD),
+        ],
         turns: BEGUN_ANEW,
         cells: &[10, 10, 10, 40],
         marks: &[3, 1],
@@ -133,7 +151,10 @@ const PLANS: &[Plan] = &[
     },
     Plan {
         words: "ways 3 and 2, the second begins anew",
-        chairs: &[(1, 3, 21, (0, 0, 1)), (2, 2, 22, (1, 1, 2))],
+        chairs: &[
+            Chair(Seat(1), Way(3), Tag(21), FIRST_INTO_SECOND),
+            Chair(Seat(2), Way(2), Tag(22), SECOND_INTO_THIRD),
+        ],
         turns: BEGUN_ANEW,
         cells: &[10, 10, 10, 40],
         marks: &[3, 1],
@@ -141,7 +162,10 @@ const PLANS: &[Plan] = &[
     },
     Plan {
         words: "way 2 and the master",
-        chairs: &[(0, 0, 20, (0, 0, 1)), (2, 2, 22, (0, 0, 2))],
+        chairs: &[
+            Chair(Seat(0), Way(0), Tag(20), FIRST_INTO_SECOND),
+            Chair(Seat(2), Way(2), Tag(22), FIRST_INTO_THIRD),
+        ],
         turns: OVERTAKEN,
         cells: &[10, 10, 10, 40],
         marks: &[3, 1],
@@ -149,7 +173,10 @@ const PLANS: &[Plan] = &[
     },
     Plan {
         words: "way 3 and the master",
-        chairs: &[(0, 0, 20, (0, 0, 1)), (2, 3, 22, (0, 0, 2))],
+        chairs: &[
+            Chair(Seat(0), Way(0), Tag(20), FIRST_INTO_SECOND),
+            Chair(Seat(2), Way(3), Tag(22), FIRST_INTO_THIRD),
+        ],
         turns: OVERTAKEN,
         cells: &[10, 10, 10, 40],
         marks: &[3, 1],

@@ -1,16 +1,17 @@
 // When a body is not seated. It comes back, and the book is as it was.
-use super::plans::turns;
+use super::plans::Turn::{Commits, GoesOn};
+use super::plans::{Seat, Sum, Times, Way, total, turns};
 use super::shelf::{Lengths, lay, open_on};
 use body::{Body, Total};
 use book::{Book, SeatRefused};
-use lane::Answer::{Committed, GoneOn};
 use lane::SeatRefusal;
 use lane::SeatRefusal::{NoSeat, NoWay, NotIdle, Number, Reach, Records};
 use std::process::Abort;
 use std::test::Fail;
 
-// A seat, its way, its total as first and last cell and target, and the refusal.
-type Row = (u32, u32, (u32, u32, u32), Option<SeatRefusal>);
+// Who asks for a seat with what, and the refusal.
+#[derive(Clone, Copy)]
+struct Row(Seat, Way, Sum, Option<SeatRefusal>);
 
 // The body that comes back stands where it stood, with its reach and length.
 fn same<B: Body + Drop>(rt: &impl Abort, back: B, given: B) {
@@ -42,26 +43,46 @@ fn tries<B: Body + Drop>(
 
 fn seats_all(rt: &impl Abort, book: &mut Book<Total>, rows: &[Row]) -> Result<(), Fail> {
     for row in rows {
-        let (seat, way, cells, expected) = *row;
-        let body = Total::new(cells.0, cells.1, cells.2)?;
-        assert_eq!(rt; tries(rt, book, seat, way, body, body)?, expected);
+        let Row(seat, way, sum, expected) = *row;
+        let body = total(sum)?;
+        assert_eq!(rt; tries(rt, book, seat.0, way.0, body, body)?, expected);
     }
     Ok(())
 }
 
 // Of eight cells. One cell read, and one written: reach 2, length 2.
-const SMALL: (u32, u32, u32) = (0, 0, 1);
+const SMALL: Sum = Sum {
+    first: 0,
+    last: 0,
+    target: 1,
+};
 
 // Length 3.
-const THREE: (u32, u32, u32) = (0, 1, 7);
+const THREE: Sum = Sum {
+    first: 0,
+    last: 1,
+    target: 7,
+};
 
 // Reach 9.
-const FAR: (u32, u32, u32) = (0, 0, 8);
+const FAR: Sum = Sum {
+    first: 0,
+    last: 0,
+    target: 8,
+};
 
 // Length 9.
-const LONG: (u32, u32, u32) = (0, 7, 0);
+const LONG: Sum = Sum {
+    first: 0,
+    last: 7,
+    target: 0,
+};
 
-const FAR_AND_LONG: (u32, u32, u32) = (0, 8, 0);
+const FAR_AND_LONG: Sum = Sum {
+    first: 0,
+    last: 8,
+    target: 0,
+};
 
 const EIGHT: [i64; 8] = [1, 2, 3, 4, 5, 6, 7, 8];
 
@@ -75,28 +96,28 @@ const SHORT: Lengths = Lengths {
 
 const SEATS: &[Row] = &[
     // Wrong in all that is tried after it.
-    (3, 0, FAR_AND_LONG, Some(NoSeat)),
-    (4_294_967_295, 1, SMALL, Some(NoSeat)),
-    (1, 0, FAR_AND_LONG, Some(NoWay)),
-    (0, 1, FAR_AND_LONG, Some(NoWay)),
-    (0, 0, FAR_AND_LONG, Some(Reach)),
-    (1, 1, FAR_AND_LONG, Some(Reach)),
-    (0, 0, LONG, Some(Records)),
-    (1, 3, LONG, Some(Records)),
+    Row(Seat(3), Way(0), FAR_AND_LONG, Some(NoSeat)),
+    Row(Seat(4_294_967_295), Way(1), SMALL, Some(NoSeat)),
+    Row(Seat(1), Way(0), FAR_AND_LONG, Some(NoWay)),
+    Row(Seat(0), Way(1), FAR_AND_LONG, Some(NoWay)),
+    Row(Seat(0), Way(0), FAR_AND_LONG, Some(Reach)),
+    Row(Seat(1), Way(1), FAR_AND_LONG, Some(Reach)),
+    Row(Seat(0), Way(0), LONG, Some(Records)),
+    Row(Seat(1), Way(3), LONG, Some(Records)),
     // Wrong in one.
-    (0, 1, SMALL, Some(NoWay)),
-    (0, 4_294_967_295, SMALL, Some(NoWay)),
-    (1, 4, SMALL, Some(NoWay)),
-    (2, 0, SMALL, Some(NoWay)),
-    (2, 2, FAR, Some(Reach)),
+    Row(Seat(0), Way(1), SMALL, Some(NoWay)),
+    Row(Seat(0), Way(4_294_967_295), SMALL, Some(NoWay)),
+    Row(Seat(1), Way(4), SMALL, Some(NoWay)),
+    Row(Seat(2), Way(0), SMALL, Some(NoWay)),
+    Row(Seat(2), Way(2), FAR, Some(Reach)),
     // Four records are kept for the master's, and the other three for a helper's.
-    (0, 0, THREE, None),
-    (0, 1, FAR_AND_LONG, Some(NotIdle)),
-    (0, 0, SMALL, Some(NotIdle)),
-    (1, 2, THREE, Some(Records)),
-    (1, 2, SMALL, None),
-    (1, 0, FAR_AND_LONG, Some(NotIdle)),
-    (2, 3, SMALL, Some(Records)),
+    Row(Seat(0), Way(0), THREE, None),
+    Row(Seat(0), Way(1), FAR_AND_LONG, Some(NotIdle)),
+    Row(Seat(0), Way(0), SMALL, Some(NotIdle)),
+    Row(Seat(1), Way(2), THREE, Some(Records)),
+    Row(Seat(1), Way(2), SMALL, None),
+    Row(Seat(1), Way(0), FAR_AND_LONG, Some(NotIdle)),
+    Row(Seat(2), Way(3), SMALL, Some(Records)),
 ];
 
 #[test]
@@ -106,16 +127,19 @@ fn refusals(rt: HostRuntime) -> Result<(), Fail> {
     seats_all(&rt, &mut book, SEATS)
 }
 
-const BEFORE: &[Row] = &[(0, 0, SMALL, None), (1, 1, SMALL, None)];
+const BEFORE: &[Row] = &[
+    Row(Seat(0), Way(0), SMALL, None),
+    Row(Seat(1), Way(1), SMALL, None),
+];
 
 const AFTER: &[Row] = &[
-    (3, 0, FAR_AND_LONG, Some(NoSeat)),
-    (1, 0, FAR_AND_LONG, Some(NotIdle)),
-    (2, 0, FAR_AND_LONG, Some(NoWay)),
-    (2, 1, FAR_AND_LONG, Some(Reach)),
-    (0, 0, LONG, Some(Number)),
-    (2, 1, LONG, Some(Number)),
-    (0, 0, SMALL, Some(Number)),
+    Row(Seat(3), Way(0), FAR_AND_LONG, Some(NoSeat)),
+    Row(Seat(1), Way(0), FAR_AND_LONG, Some(NotIdle)),
+    Row(Seat(2), Way(0), FAR_AND_LONG, Some(NoWay)),
+    Row(Seat(2), Way(1), FAR_AND_LONG, Some(Reach)),
+    Row(Seat(0), Way(0), LONG, Some(Number)),
+    Row(Seat(2), Way(1), LONG, Some(Number)),
+    Row(Seat(0), Way(0), SMALL, Some(Number)),
 ];
 
 // A commit brings the number to 2,147,483,600. A helper that was seated before may still commit.
@@ -124,9 +148,9 @@ fn numbers(rt: HostRuntime) -> Result<(), Fail> {
     let mut lists = lay(rt.alloc(), &EIGHT, SHORT)?;
     let mut book: Book<Total> = open_on(&mut lists, 1, 2, 2_147_483_598)?;
     seats_all(&rt, &mut book, BEFORE)?;
-    let master = [(0, 6, GoneOn), (0, 1, Committed(2_147_483_599))];
+    let master = [GoesOn(Seat(0), Times(6)), Commits(Seat(0), 2_147_483_599)];
     turns(&rt, &mut book, &mut lists, &master, "the master")?;
     seats_all(&rt, &mut book, AFTER)?;
-    let helper = [(1, 10, GoneOn), (1, 1, Committed(2_147_483_601))];
+    let helper = [GoesOn(Seat(1), Times(10)), Commits(Seat(1), 2_147_483_601)];
     turns(&rt, &mut book, &mut lists, &helper, "the helper")
 }

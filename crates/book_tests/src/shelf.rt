@@ -32,22 +32,9 @@ pub struct Lengths {
     pub journal: usize,
 }
 
-fn filled<T: Copy>(heap: Global, item: T, count: usize) -> Result<Vec<T>, AllocError> {
-    let mut list = Vec::new(heap);
-    for _ in 0..count {
-        list.push(item)?;
-    }
-    Ok(list)
-}
-
-// So many cells with one amount.
-pub(crate) fn cells_of(heap: Global, amount: i64, count: usize) -> Result<Vec<i64>, AllocError> {
-    filled(heap, amount, count)
-}
-
-// So many marks of one number.
-pub(crate) fn marks_of(heap: Global, mark: u32, count: usize) -> Result<Vec<u32>, AllocError> {
-    filled(heap, mark, count)
+// So many items that are all the same.
+pub(crate) fn filled<T: Copy>(heap: Global, item: T, count: usize) -> Result<Vec<T>, AllocError> {
+    vec![in heap; item; count]
 }
 
 // Marks of 9, and logs and a journal with what no call makes.
@@ -119,10 +106,8 @@ pub(crate) fn sits<B: Body + Drop>(
     tag: u32,
     body: B,
 ) -> Result<(), Fail> {
-    match book.seat(seat, way, tag, body) {
-        Ok(()) => Ok(()),
-        Err(_) => Err(Fail::new("the body is refused")),
-    }
+    book.seat(seat, way, tag, body)
+        .map_err(|_| Fail::new("the body is refused"))
 }
 
 // The cells, the marks, and the records that are used. Behind these nothing was recorded. A failure tells by these words which
@@ -139,8 +124,7 @@ pub(crate) fn holds(
     assert!(rt; shelf.marks.as_slice() == marks, "the marks {words}");
     let journal = shelf.journal.as_slice();
     assert!(rt; journal.len() >= records.len(), "the journal {words}");
-    for i in 0..journal.len() {
-        let expected = if i < records.len() { records[i] } else { BLANK };
-        assert_eq!(rt; journal[i], expected, "{words}");
-    }
+    let (used, unused) = journal.split_at(records.len());
+    assert_eq!(rt; used, records, "{words}");
+    assert!(rt; unused.iter().all(|record| *record == BLANK), "{words}");
 }

@@ -1,11 +1,11 @@
 // When a step is not taken. The book is as it was, and so are the lists.
-use super::plans::{FOUR, LENGTHS, turns};
+use super::plans::Turn::{Commits, GoesOn};
+use super::plans::{FOUR, LENGTHS, SECOND_INTO_FIRST, Seat, Times, total, turns};
 use super::shelf::{Lengths, Shelf, holds, lay, open_on, sits, step_on};
 use body::Total;
 use book::Book;
 use journal::Record;
 use journal::Record::{Change, Commit};
-use lane::Answer::{Committed, GoneOn};
 use lane::StepRefusal::{Idle, NoSeat};
 use lane::{StepRefusal, Written};
 use std::alloc::Global;
@@ -14,107 +14,95 @@ use std::test::Fail;
 
 // Seat 1 puts what is in cell 1 into cell 0, in way 1. The other seats are idle.
 fn twenty(book: &mut Book<Total>) -> Result<(), Fail> {
-    sits(book, 1, 1, 6, Total::new(1, 1, 0)?)
+    sits(book, 1, 1, 6, total(SECOND_INTO_FIRST)?)
 }
 
-// Some seats, and why each is not stepped.
-const SEATS: &[(u32, StepRefusal)] = &[
-    (9, NoSeat),
-    (4_294_967_295, NoSeat),
-    (0, Idle),
-    (2, Idle),
-    (8, Idle),
+// A seat, and why it is not stepped.
+struct Refused(Seat, StepRefusal);
+
+const SEATS: &[Refused] = &[
+    Refused(Seat(9), NoSeat),
+    Refused(Seat(4_294_967_295), NoSeat),
+    Refused(Seat(0), Idle),
+    Refused(Seat(2), Idle),
+    Refused(Seat(8), Idle),
 ];
 
 fn refuse_seats(rt: &impl Abort, book: &mut Book<Total>, lists: &mut Shelf) {
-    for row in SEATS {
-        assert_eq!(rt; step_on(book, lists, row.0), Err(row.1));
+    for Refused(seat, refusal) in SEATS {
+        assert_eq!(rt; step_on(book, lists, seat.0), Err(*refusal));
     }
 }
 
 // Lists of other lengths: cells, and the others.
-const OTHERS: &[(&[i64], Lengths)] = &[
-    (&[10, 20, 30], LENGTHS),
-    (&[10, 20, 30, 40, 50], LENGTHS),
-    (&[], LENGTHS),
-    (
+struct Others(&'static [i64], Lengths);
+
+const OTHERS: &[Others] = &[
+    Others(&[10, 20, 30], LENGTHS),
+    Others(&[10, 20, 30, 40, 50], LENGTHS),
+    Others(&[], LENGTHS),
+    Others(
         &FOUR,
         Lengths {
             marks: 1,
-            reads: 512,
-            writes: 256,
-            journal: 16,
+            ..LENGTHS
         },
     ),
-    (
+    Others(
         &FOUR,
         Lengths {
             marks: 3,
-            reads: 512,
-            writes: 256,
-            journal: 16,
+            ..LENGTHS
         },
     ),
-    (
+    Others(
         &FOUR,
         Lengths {
-            marks: 2,
             reads: 511,
-            writes: 256,
-            journal: 16,
+            ..LENGTHS
         },
     ),
-    (
+    Others(
         &FOUR,
         Lengths {
-            marks: 2,
             reads: 513,
-            writes: 256,
-            journal: 16,
+            ..LENGTHS
         },
     ),
-    (
+    Others(
         &FOUR,
         Lengths {
-            marks: 2,
-            reads: 512,
             writes: 255,
-            journal: 16,
+            ..LENGTHS
         },
     ),
-    (
+    Others(
         &FOUR,
         Lengths {
-            marks: 2,
-            reads: 512,
             writes: 257,
-            journal: 16,
+            ..LENGTHS
         },
     ),
-    (
+    Others(
         &FOUR,
         Lengths {
-            marks: 2,
-            reads: 512,
-            writes: 256,
             journal: 15,
+            ..LENGTHS
         },
     ),
-    (
+    Others(
         &FOUR,
         Lengths {
-            marks: 2,
-            reads: 512,
-            writes: 256,
             journal: 17,
+            ..LENGTHS
         },
     ),
 ];
 
 // A seat that there is not, or that is idle, is refused as such whatever the lists are.
 fn refuse_lists(rt: &impl Abort, heap: Global, book: &mut Book<Total>) -> Result<(), Fail> {
-    for row in OTHERS {
-        let mut lists = lay(heap, row.0, row.1)?;
+    for Others(cells, lengths) in OTHERS {
+        let mut lists = lay(heap, cells, *lengths)?;
         assert_eq!(rt; step_on(book, &mut lists, 1), Err(StepRefusal::Lists));
         refuse_seats(rt, book, &mut lists);
     }
@@ -132,9 +120,15 @@ fn between(
     for _ in 0..10 {
         refuse_seats(rt, book, lists);
         refuse_lists(rt, heap, book)?;
-        turns(rt, book, lists, &[(1, 1, GoneOn)], "between refusals")?;
+        turns(
+            rt,
+            book,
+            lists,
+            &[GoesOn(Seat(1), Times(1))],
+            "between refusals",
+        )?;
     }
-    turns(rt, book, lists, &[(1, 1, Committed(1))], "between refusals")?;
+    turns(rt, book, lists, &[Commits(Seat(1), 1)], "between refusals")?;
     assert_eq!(rt; step_on(book, lists, 1), Err(Idle));
     holds(
         rt,
@@ -185,12 +179,12 @@ fn misled(rt: &impl Abort, book: &mut Book<Total>, lists: &mut Shelf, cell: u32)
 // After seven steps it is to validate its entry, then to mark it, then to set its cell.
 fn mislead(rt: &impl Abort, book: &mut Book<Total>, lists: &mut Shelf) -> Result<(), Fail> {
     twenty(book)?;
-    turns(rt, book, lists, &[(1, 7, GoneOn)], "misled")?;
+    turns(rt, book, lists, &[GoesOn(Seat(1), Times(7))], "misled")?;
     for cell in [4, 5, 4_294_967_295] {
         misled(rt, book, lists, cell);
-        turns(rt, book, lists, &[(1, 1, GoneOn)], "misled")?;
+        turns(rt, book, lists, &[GoesOn(Seat(1), Times(1))], "misled")?;
     }
-    turns(rt, book, lists, &[(1, 1, Committed(1))], "misled")?;
+    turns(rt, book, lists, &[Commits(Seat(1), 1)], "misled")?;
     holds(rt, lists, &[20, 20, 30, 40], &[1, 0], DONE, "misled");
     Ok(())
 }
