@@ -1,5 +1,5 @@
--- How a posting and a fault are printed. P is 80, T is 84 and the tab is 9.
-use Rattle.std.specs.Prelude.{ℕ, List, ◌∷◌, ◌++◌, decimal}
+-- How a posting and a fault are printed. P is 80, T is 84, X is 88, the tab is 9 and the end of a line is 10.
+use Rattle.std.specs.Prelude.{ℕ, List, [], ◌∷◌, ◌++◌, decimal}
 use Rattle.std.specs.Fmt.{signed_decimal}
 use Rattle.imports.specs.declared.fault.ImportFault.{ImportFault}
 use Rattle.imports.specs.declared.posting.Posting.{Posting}
@@ -14,3 +14,7 @@ posting_text (Transfer cell other amount) = 84 ∷ 9 ∷ (decimal cell ++ 9 ∷ 
 -- The faulty line and the fault's number, parted by a tab.
 abbrev pub fault_text : ImportFault → List ℕ
 fault_text fault = decimal (import_fault_line fault) ++ 9 ∷ decimal (import_fault_number fault)
+
+-- The line that programs print for a refused text: the faulty line and the fault's number.
+abbrev pub refusal_line : ImportFault → List ℕ
+refusal_line fault = 88 ∷ 9 ∷ (fault_text fault ++ 10 ∷ [])

@@ -1,10 +1,10 @@
--- Which bytes list an import text. L is 76, X is 88, the tab is 9 and the end of a line is 10.
+-- Which bytes list an import text. L is 76, the tab is 9 and the end of a line is 10.
 use Rattle.std.specs.Prelude.{◌≡◌, ℕ, ◌⊎◌, List, [], ◌∷◌, ◌++◌, length, decimal}
 use Rattle.std.specs.List.{flat_map}
 use Rattle.imports.specs.declared.fault.ImportFault.{ImportFault}
 use Rattle.imports.specs.declared.posting.Posting.{Posting}
 use Rattle.imports.specs.Faults.{Refused}
-use Rattle.imports.specs.Printed.{posting_text, fault_text}
+use Rattle.imports.specs.Printed.{posting_text, refusal_line}
 use Rattle.imports.specs.Texts.{Stands, reach, total_length}
 
 -- The line of a posting, its amount in the smallest unit.
@@ -18,10 +18,6 @@ last_line ps = 76 ∷ 9 ∷ (decimal (length ps) ++ 9 ∷ (decimal (reach ps) ++
 -- The listing of some postings.
 abbrev pub listed : List Posting → List ℕ
 listed ps = flat_map posting_line ps ++ last_line ps
-
--- The line for a refused text: the faulty line and the fault's number.
-abbrev pub refusal_line : ImportFault → List ℕ
-refusal_line fault = 88 ∷ 9 ∷ (fault_text fault ++ 10 ∷ [])
 
 -- These bytes list the text: the postings that it stands for, or the fault for which it is refused.
 abbrev pub Lists : List ℕ → List ℕ → Type 0

@@ -1,7 +1,6 @@
-// What is printed: the lines of a journal, or the line of a refusal.
+// What is printed: the lines of a journal.
 ghost use Rattle.std.specs.Prelude.{◌≡◌, take, flat_map, IfOk, string_bytes};
 ghost use Rattle.journal.specs.Lines.{line_of};
-ghost use Rattle.posts.specs.Posts.{refusal_line};
 
 use journal::Record;
 use std::alloc::{AllocError, Global};
@@ -19,11 +18,4 @@ pub(crate) fn print_lines(
         write!(out, "{record}")?;
     }
     Ok(out)
-}
-
-// The line of a refusal.
-pub(crate) fn print_refusal(heap: Global, line: u32, number: u32) -> Result<String, AllocError>
-    ensures { IfOk result (λ out. string_bytes out ≡ refusal_line line number) }
-{
-    format!(in heap; "X\t{line}\t{number}\n")
 }

@@ -1,10 +1,11 @@
 // Why an import that the check admits is not booked.
-ghost use Rattle.std.specs.Prelude.{◌≡◌};
+ghost use Rattle.std.specs.Prelude.{◌≡◌, Some};
 ghost use Rattle.posts.specs.declared.refusal.BookingRefusal.TheVariants.{Open, Seat, Step};
-ghost use Rattle.posts.specs.Refusals.{booking_refusal_number};
+ghost use Rattle.posts.specs.Refusals.{booking_refusal_number, booking_refusal_text};
 
 use book::SeatRefused;
 use lane::{OpenRefusal, SeatRefusal, StepRefusal};
+use std::fmt;
 
 #[derive(Clone, Copy)]
 pub(crate) enum BookingRefusal {
@@ -47,5 +48,15 @@ impl From<StepRefusal> for BookingRefusal {
 
     fn from(refusal: StepRefusal) -> BookingRefusal {
         BookingRefusal::Step(refusal)
+    }
+}
+
+// No line of the text is at fault, so that 0 stands for it; and the number, behind a tab.
+impl fmt::Display for BookingRefusal {
+    ghost output = { λ refusal. Some (booking_refusal_text refusal) };
+
+    fn fmt<W: fmt::Write>(&self, f: &mut fmt::Formatter<W>) -> fmt::Result {
+        let number = self.number();
+        write!(f, "0\t{number}")
     }
 }
