@@ -1,21 +1,17 @@
 -- The first fault of a text's first line, from what was read of it. Assumes nothing.
-use Rattle.std.proofs.Common.{◌≡◌, ℕ, ◌+◌, ◌≤◌, List, [], ◌∷◌, ◌++◌, length, drop, sym, ap, ◌∙◌, inl, inr, ⊎_elim, append_assoc, arith}
+use Rattle.std.proofs.Common.{◌≡◌, ℕ, ◌+◌, ◌≤◌, List, [], ◌∷◌, ◌++◌, length, drop, sym, ap, ◌∙◌, inr, ⊎_elim, append_assoc, arith}
 use Rattle.std.proofs.lemmas.List.{length_push, drop_at}
 use Rattle.std.proofs.lemmas.Bool.{true≢false}
 use Rattle.imports.specs.declared.fault.LineFault.{LineFault}
-use Rattle.imports.specs.declared.fault.LineFault.TheVariants.{End}
 use Rattle.imports.specs.Texts.{most_in_line}
 use Rattle.money.specs.Fields.{Lacks}
-use Rattle.imports.specs.Lines.{Row, rows, Ladder, First, BadEnd}
+use Rattle.imports.specs.Lines.{rows, Ladder, First, BadEnd}
 use Rattle.imports.specs.Reading.{FirstRowFault}
 use Rattle.imports.proofs.Rows.{ended, rows_ended}
 
 -- a line that has its end and is short enough
 pub good_end : (bytes : List ℕ) → length bytes ≤ most_in_line → BadEnd (ended bytes) → ⊥
 good_end bytes short = ⊎_elim true≢false (λ long. omega (arith, long, short))
-
-pub end_fault : (said : List ℕ → Ladder) (text : List ℕ) (fault : LineFault) → (fault ≡ End) × ((here : Row) × (after : List Row) × (rows text ≡ here ∷ after) × BadEnd here) → FirstRowFault said text fault
-end_fault said text fault h = (h.1.0, h.1.1, h.1.2, inl (h.1.3, h.0))
 
 module _ (text bytes rest : List ℕ) (lacks : Lacks 10 bytes) (cut : text ≡ bytes ++ 10 ∷ rest) where
   pub first_row_is : rows text ≡ ended bytes ∷ rows rest

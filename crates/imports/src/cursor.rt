@@ -11,7 +11,8 @@ pub struct Postings<'a> {
 }
 
 impl Postings<'_> {
-    // Where in the text the next posting is looked for.
+    // Where in the text the next posting is looked for. What owns its import keeps this number between two reads, since it
+    // cannot hold a cursor that borrows from it.
     pub fn place(&self) -> usize
         ensures { result ≡ self.now.at }
     {

@@ -29,6 +29,7 @@ impl LineFault {
     pub fn number(self) -> u32
         ensures { result ≡ line_fault_number self }
     {
+        // No discriminants, since the last kind has the number of the fault in it.
         match self {
             LineFault::End => 61,
             LineFault::Header => 62,
@@ -40,6 +41,7 @@ impl LineFault {
     }
 }
 
+// By hand, as the next one, since a `From` that a derive writes has no contract, and clauses name what `?` makes.
 impl From<AmountFault> for LineFault {
     ghost from_gives = { λ fault line. line ≡ LineFault.Amount fault };
 

@@ -16,7 +16,7 @@ fn push_line(
 ) -> Result<(), AllocError> {
     for (i, field) in fields.iter().copied().enumerate() {
         if i > 0 {
-            text.push(9)?;
+            text.push(b'\t')?;
         }
         if i == odd_field && before {
             text.push(odd)?;
@@ -26,27 +26,30 @@ fn push_line(
             text.push(odd)?;
         }
     }
-    text.push(10)?;
+    text.push(b'\n')?;
     Ok(())
 }
 
-// What a line is refused with where an odd byte other than a tab stands in each of its fields. A tab makes a field more.
-fn refuse_fields(
-    rt: &impl Abort,
-    heap: Global,
-    front: &[u8],
-    fields: &[&str],
+// A kind of line, and with what it is refused where an odd byte stands in one of its fields.
+#[derive(Clone, Copy)]
+struct Kind<'a> {
+    front: &'a [u8],
+    fields: &'a [&'a str],
     line: u32,
-    numbers: &[u32],
+    // For each field the number of the refusal.
+    numbers: &'a [u32],
+    // The number where the byte is a tab, which makes a field more.
     tab: u32,
-) -> Result<(), Fail> {
+}
+
+fn refuse_fields(rt: &impl Abort, heap: Global, kind: Kind<'_>) -> Result<(), Fail> {
     for odd in ODD {
-        for (i, number) in numbers.iter().copied().enumerate() {
+        for (i, number) in kind.numbers.iter().copied().enumerate() {
             for before in [true, false] {
-                let mut text = front.to_vec(heap)?;
-                push_line(&mut text, fields, i, odd, before)?;
-                let expected = if odd == 9 { tab } else { number };
-                refused(rt, heap, text.as_slice(), line, expected)?;
+                let mut text = kind.front.to_vec(heap)?;
+                push_line(&mut text, kind.fields, i, odd, before)?;
+                let expected = if odd == b'\t' { kind.tab } else { number };
+                refused(rt, heap, text.as_slice(), kind.line, expected)?;
             }
         }
     }
@@ -55,31 +58,36 @@ fn refuse_fields(
 
 #[test]
 fn header(rt: HostRuntime) -> Result<(), Fail> {
-    refuse_fields(&rt, rt.alloc(), b"", &["H", "DKK"], 1, &[62, 62], 62)
+    let kind = Kind {
+        front: b"",
+        fields: &["H", "DKK"],
+        line: 1,
+        numbers: &[62, 62],
+        tab: 62,
+    };
+    refuse_fields(&rt, rt.alloc(), kind)
 }
 
 #[test]
 fn post(rt: HostRuntime) -> Result<(), Fail> {
-    refuse_fields(
-        &rt,
-        rt.alloc(),
-        b"H\tDKK\n",
-        &["P", "3", "12.50"],
-        2,
-        &[63, 64, 66],
-        63,
-    )
+    let kind = Kind {
+        front: b"H\tDKK\n",
+        fields: &["P", "3", "12.50"],
+        line: 2,
+        numbers: &[63, 64, 66],
+        tab: 63,
+    };
+    refuse_fields(&rt, rt.alloc(), kind)
 }
 
 #[test]
 fn transfer(rt: HostRuntime) -> Result<(), Fail> {
-    refuse_fields(
-        &rt,
-        rt.alloc(),
-        b"H\tDKK\n",
-        &["T", "3", "0", "2.50"],
-        2,
-        &[63, 64, 64, 66],
-        63,
-    )
+    let kind = Kind {
+        front: b"H\tDKK\n",
+        fields: &["T", "3", "0", "2.50"],
+        line: 2,
+        numbers: &[63, 64, 64, 66],
+        tab: 63,
+    };
+    refuse_fields(&rt, rt.alloc(), kind)
 }

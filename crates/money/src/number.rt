@@ -15,7 +15,8 @@ pub fn read_number(field: &[u8]) -> Option<u64>
     }
 }
 
-// The value of a field of digits, zeros in front included.
+// The value of a field of digits, zeros in front included. A `try_fold` was tried: its goal
+// `try_fold-requires-clause-callable` stays open, since the closure's sum fits only by how few digits came before.
 pub(crate) fn digits_value(field: &[u8]) -> Option<u64>
     requires { length field.now ≤ 15 }
     ensures { MatchOption result (AllDigits 10 field.now → ⊥) (λ n. AllDigits 10 field.now × (n ≡ digits_value 10 field.now)) }

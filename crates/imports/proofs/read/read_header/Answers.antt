@@ -1,13 +1,8 @@
 use Rattle.std.proofs.Common.{◌≡◌, ◌+◌, [], ◌∷◌, ◌++◌, length, drop, ap, ◌∙◌, arith}
-use Rattle.std.proofs.lemmas.Result.{err_from_is_err_and, MatchResult-weaker}
+use Rattle.std.proofs.lemmas.Result.{MatchResult-weaker}
 use Rattle.imports.specs.Lines.{code_faults}
-use Rattle.imports.proofs.FirstRow.{end_fault, said_fault}
+use Rattle.imports.proofs.FirstRow.{said_fault}
 use Rattle.imports.proofs.read.read_header.Goals as goal
-
-pub returns-in_err-row : goal.returns-in_err-row
-returns-in_err-row c =
-    let p = err_from_is_err_and c.from_residual.result c.from_residual.ensures.1 in
-    rw (p.1, p.2) (end_fault code_faults c.args.text.now c.in_err-row.field-0.0 c.in_err-row.ensures)
 
 pub returns : goal.returns
 returns c =

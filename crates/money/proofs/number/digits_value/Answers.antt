@@ -1,6 +1,6 @@
 use Rattle.std.proofs.Common.{◌≡◌, ◌^◌, ◌<◌, length, get_or, take, arith, rules}
 use Rattle.std.proofs.lemmas.Int.Digits.{digits_more, digits_value_more}
-use Rattle.std.proofs.lemmas.List.{length-take-le, take_all}
+use Rattle.std.proofs.lemmas.List.{length-take-le}
 use Rattle.std.proofs.lemmas.Str.Parse.{digit_at}
 use Rattle.std.specs.Int.{IsInRange}
 use Rattle.money.proofs.Numbers.{value_room, digit_value}
@@ -37,8 +37,3 @@ loop-b-preserved c =
     let is = digit_value (get_or s i 0) byte.0 byte.1 in
     let more = digits_value_more 10 s i c.loop-b-test.true in
     (digits_more 10 s i c.loop-b-test.true c.loop-b.invariant.0 (omega arith), omega (arith, more, is, c.from.ensures, c.loop-b.invariant.1))
-
-pub returns : goal.returns
-returns c =
-    let whole = take_all c.loop-b.b-index c.args.field.now (omega arith) in
-    rw whole at c.loop-b.invariant
