@@ -24,17 +24,17 @@ use Rattle.body.proofs.Doing.{does_import}
 use Rattle.body.specs.Imported.{next_checked, import_lawful}
 use Rattle.body.proofs.Lines.{few_told}
 use Rattle.body.specs.Scripted.{kept_read, kept_write}
-use Rattle.body.proofs.Totalled.{saturated_fits, natAbs_add}
+use Rattle.body.proofs.Totalled.{saturated_fits, magnitude_of_sum}
 
-natAbs_sub : (x y : ℤ) → nat_abs (x -ℤ y) ≤ nat_abs x + nat_abs y
-natAbs_sub x y = grind (arith, ints)
+magnitude_of_difference : (x y : ℤ) → nat_abs (x -ℤ y) ≤ nat_abs x + nat_abs y
+magnitude_of_difference x y = grind (arith, ints)
 
 -- sums of amounts within the limit fit 64 bits
 sum_exact : (x a : ℤ) → within_limit x ≡ true → nat_abs a ≤ limit → sum64 x a ≡ x +ℤ a
-sum_exact x a good small = saturated_fits (x +ℤ a) (omega (arith, natAbs_add x a, leb-true (nat_abs x) limit good, small))
+sum_exact x a good small = saturated_fits (x +ℤ a) (omega (arith, magnitude_of_sum x a, leb-true (nat_abs x) limit good, small))
 
 less_exact : (x a : ℤ) → within_limit x ≡ true → nat_abs a ≤ limit → less64 x a ≡ x -ℤ a
-less_exact x a good small = saturated_fits (x -ℤ a) (omega (arith, natAbs_sub x a, leb-true (nat_abs x) limit good, small))
+less_exact x a good small = saturated_fits (x -ℤ a) (omega (arith, magnitude_of_difference x a, leb-true (nat_abs x) limit good, small))
 
 post_exact : (c : ℕ) (a x : ℤ) → nat_abs a ≤ limit → after_post c a x ≡ cond (post_good a x) (Some (steps.Write c (x +ℤ a))) None
 post_exact c a x small = at (within_limit x) refl

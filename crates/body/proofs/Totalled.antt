@@ -23,8 +23,8 @@ nothing t = tt
 abbrev Room : ℕ → ℤ → Type 0
 Room n sum = nat_abs sum + n * limit < 2 ^ 63
 
-pub natAbs_add : (x y : ℤ) → nat_abs (x +ℤ y) ≤ nat_abs x + nat_abs y
-natAbs_add x y = grind (arith, ints)
+pub magnitude_of_sum : (x y : ℤ) → nat_abs (x +ℤ y) ≤ nat_abs x + nat_abs y
+magnitude_of_sum x y = grind (arith, ints)
 
 module _ (t : Total) where
   abbrev pub At : Plan (Unit {0}) → TotalStep → Type 0
@@ -45,7 +45,7 @@ module _ (t : Total) where
   stopped at sum a here bad = rw (le-leb at t.last here, bad) refl
 
   room_left : (n : ℕ) (sum a : ℤ) → Room (suc n) sum → within_limit a ≡ true → Room n (sum +ℤ a)
-  room_left n sum a room good = omega (arith, room, natAbs_add sum a, leb-true (nat_abs a) limit good)
+  room_left n sum a room good = omega (arith, room, magnitude_of_sum sum a, leb-true (nat_abs a) limit good)
 
   pub follows_sum : (n at : ℕ) (sum : ℤ) → t.last ≡ at + n → Room (suc n) sum → At (summed (suc n) at t.target sum) (Read at sum)
   follows_sum zero at sum is room = (

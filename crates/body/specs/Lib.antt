@@ -1,4 +1,3 @@
-pub mod Eithers
 pub mod Imports
 pub mod MadeImports
 pub mod Makers

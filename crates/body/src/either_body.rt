@@ -1,5 +1,5 @@
 // One of two kinds of body, which does as the one that it holds.
-ghost use Rattle.body.specs.Eithers.{either_of, both_of};
+ghost use Rattle.either.specs.Either.{either, map_either};
 ghost use Rattle.body.specs.Eithered.{either_lawful};
 
 use super::body::Body;
@@ -11,19 +11,19 @@ impl<A: Body, B: Body> Body for Either<A, B> {
 
     ghost KIND = { 4 };
 
-    ghost asks = { either_of A.Body.asks B.Body.asks };
+    ghost asks = { either A.Body.asks B.Body.asks };
 
-    ghost told = { λ e v. both_of (λ a. A.Body.told a v) (λ b. B.Body.told b v) e };
+    ghost told = { λ e v. map_either (λ a. A.Body.told a v) (λ b. B.Body.told b v) e };
 
-    ghost taken = { both_of A.Body.taken B.Body.taken };
+    ghost taken = { map_either A.Body.taken B.Body.taken };
 
-    ghost begin = { both_of A.Body.begin B.Body.begin };
+    ghost begin = { map_either A.Body.begin B.Body.begin };
 
-    ghost left = { either_of A.Body.left B.Body.left };
+    ghost left = { either A.Body.left B.Body.left };
 
-    ghost reach = { either_of A.Body.reach B.Body.reach };
+    ghost reach = { either A.Body.reach B.Body.reach };
 
-    ghost len = { either_of A.Body.len B.Body.len };
+    ghost len = { either A.Body.len B.Body.len };
 
     ghost lawful = { either_lawful A.Body.lawful B.Body.lawful };
 

@@ -23,7 +23,7 @@ pub enum ImportStep {
     Read {
         posting: Posting,
     },
-    // To read the second cell of a transfer; the first held this amount. The posting itself would leave open that it is one.
+    // To read the second cell of a transfer; the first held this amount. A `Posting` in it would leave open that it is a transfer.
     ReadOther {
         from: u16,
         to: u16,

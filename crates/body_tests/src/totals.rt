@@ -301,13 +301,8 @@ fn amounts_beyond(rt: HostRuntime) -> Result<(), Fail> {
 
 // 4096 cells: the first 2048 with one amount, the others with another.
 fn halves(heap: Global, front: i64, back: i64) -> Result<Vec<i64>, AllocError> {
-    let mut cells = Vec::new(heap);
-    for _ in 0..2048 {
-        cells.push(front)?;
-    }
-    for _ in 0..2048 {
-        cells.push(back)?;
-    }
+    let mut cells = vec![in heap; front; 2048]?;
+    cells.resize(4096, back)?;
     Ok(cells)
 }
 
