@@ -49,7 +49,8 @@ pub fn read(cells: &[i64], cell: u32, own: Option<i64>) -> Step
     }
 }
 
-// Hands the amount that was loaded, if its mark is not stale and the read log has room.
+// Hands the amount that was loaded, if its mark is not stale and the read log has room. How the log stands, `known` and
+// `count`, is no struct: two functions take it, each reads it once, and the caller would make the struct for that alone.
 pub fn check(stale: bool, known: bool, count: u32, cell: u32, loaded: i64) -> Step
     ensures { result ≡ check_step stale known count cell loaded }
 {

@@ -93,7 +93,8 @@ fn after_swap(checked: Option<u32>, seen: u32) -> Phase
     }
 }
 
-// Goes to the next entry if this one is fresh, in the lane.
+// Goes to the next entry if this one is fresh, in the lane. Each phase that it goes to differs from those of `prevalidate`, so
+// one function of both would take three phases and be no plainer.
 pub fn validate(stale: bool, count: u32, at: u32) -> Step
     ensures { result ≡ validate_step stale count at }
 {
