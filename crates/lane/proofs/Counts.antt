@@ -141,8 +141,8 @@ module _ {B : Type 0} (m : Ghosts B) (o : Opening) (law : Laws m) where
       (on k l r.0)
 
   no_moment : (newer older : History B) (e : Moment B) → ◌≡◌ {A = History B} [] (newer ++ (e ∷ older)) → ⊥
-  no_moment [] older e q = let z : ◌≡◌ {A = ℕ} 0 1 = cc in omega arith
-  no_moment (x ∷ newer) older e q = let z : ◌≡◌ {A = ℕ} 0 1 = cc in omega arith
+  no_moment [] older e q = cc
+  no_moment (x ∷ newer) older e q = cc
 
   module _ (h : History B) (w : World B) (i : Inv m o h w) (k : ℕ) (s : Seat B) (at : w.seats k ≡ Some s) where
     abbrev u : Out B
@@ -193,11 +193,11 @@ module _ {B : Type 0} (m : Ghosts B) (o : Opening) (law : Laws m) where
 
   pub back : {h : History B} {w : World B} → Ran m o h w → Back h w
   back (opens slots l ev) = λ k newer older x q. absurd (no_moment newer older x q)
-  back (seats h w k y b r idle fits) = back_idle h w (seat_of m w k y b) (moment m (seated k b) w.shared) (λ j a t c. (let z : ◌≡◌ {A = ℕ} 0 1 = cc in omega arith)) (λ j. refl) (λ j hj. same j hj (eqb k j) refl) (back r)
+  back (seats h w k y b r idle fits) = back_idle h w (seat_of m w k y b) (moment m (seated k b) w.shared) (λ j a t c. cc) (λ j. refl) (λ j hj. same j hj (eqb k j) refl) (back r)
     where
       same : (j : ℕ) → holds_seat (w.seats j) ≡ true → (c : Bool) → eqb k j ≡ c → cond (eqb k j) (Some (to (first_phase k) (record { body = b; way = y; start = 0; reads = []; writes = [] }))) (w.seats j) ≡ w.seats j
       same j hj true q = absurd (false≢true (subst (λ z. holds_seat z ≡ true) idle (subst (λ z. holds_seat (w.seats z) ≡ true) (sym (eqb-true k j q)) hj)))
       same j hj false q = rw q
   back (steps h w k s r at) = back_step h w (inv m o law r) k s at (back r)
-  back (pauses h w p r) = back_idle h w (pause_of m p w) (moment m other w.shared) (λ j a t c. (let z : ◌≡◌ {A = ℕ} 0 1 = cc in omega arith)) (λ j. refl) (λ j hj. refl) (back r)
-  back (refuses h w r) = back_idle h w w (moment m other w.shared) (λ j a t c. (let z : ◌≡◌ {A = ℕ} 0 1 = cc in omega arith)) (λ j. refl) (λ j hj. refl) (back r)
+  back (pauses h w p r) = back_idle h w (pause_of m p w) (moment m other w.shared) (λ j a t c. cc) (λ j. refl) (λ j hj. refl) (back r)
+  back (refuses h w r) = back_idle h w w (moment m other w.shared) (λ j a t c. cc) (λ j. refl) (λ j hj. refl) (back r)

@@ -126,13 +126,12 @@ module _ {B : Type 0} (m : Ghosts B) (law : Laws m) where
     -- NO STEP IS REFUSED FOR ITS LISTS
     taken : (k : ℕ) (x : Option Seated) → get_or w.seats k None ≡ x → (y : Option B) → get_or w.bodies k None ≡ y
         → step_reply_by m w k x y ≡ Err Lists → ⊥
-    taken k None e y f q = let z : ◌≡◌ {A = ℕ} 0 1 = cc in omega arith
-    taken k (Some s) e None f q = let z : ◌≡◌ {A = ℕ} 0 1 = cc in omega arith
+    taken k None e y f q = cc
+    taken k (Some s) e None f q = cc
     taken k (Some s) e (Some b) f q =
         let a : Answer = (step_now m w k s b).answer in
         let p : ◌≡◌ {A = Result Answer StepRefusal} (Ok a) (Err Lists) = subst (λ c. cond c (Ok a) (Err Lists) ≡ Err Lists) (can k s b e f) q in
-        let z : ◌≡◌ {A = ℕ} 0 1 = cc in
-        omega arith
+        cc
 
     -- A step of a seated transaction is taken, and its record stands behind those before it.
     module _ (k : ℕ) (s : Seated) (b : B) (l : k ≤ w.helpers) (at : get_or w.seats k None ≡ Some s) (has_body : get_or w.bodies k None ≡ Some b) where
@@ -146,7 +145,7 @@ module _ {B : Type 0} (m : Ghosts B) (law : Laws m) where
   pub orderly : {o : Opening} {h : History B} {w : World B} → Ran m o h w → Orderly m w
   orderly {o} {h} {w} r = record {
     never_refused = λ k. cond_both (ltb w.helpers k) _ _ (λ (x : Result Answer StepRefusal). x ≡ Err Lists → ⊥)
-        (λ e q. (let z : ◌≡◌ {A = ℕ} 0 1 = cc in omega arith))
+        (λ e q. cc)
         (λ e. taken r k (get_or w.seats k None) refl (get_or w.bodies k None) refl);
     within = (cleaned r).cells;
     room = λ k s b x l at has_body e. room_for m law o h w (right m r) (cleaned r) (booked r) k s b l at has_body x e;

@@ -243,7 +243,7 @@ module _ {B : Type 0} (m : Ghosts B) (o : Opening) where
       }
         where
           clash : (j : ℕ) (a : Answer) (t : Told) → ◌≡◌ {A = Call B} (seated k b) (stepped j a t) → ⊥
-          clash j a t c = let z : ◌≡◌ {A = ℕ} 0 1 = cc in omega arith
+          clash j a t c = cc
 
           seats_new : (j : ℕ) (c : Bool) → eqb k j ≡ c → Mine m o.cells w.shared.core w.shared.flag (commits h) j (view_of j (d ∷ h)) (cond c (Some new) (w.seats j))
           seats_new j true q = subst (λ x. Mine m o.cells w.shared.core w.shared.flag (commits h) x (view_of x (d ∷ h)) (Some new)) (eqb-true k j q) mine_new
@@ -268,7 +268,7 @@ module _ {B : Type 0} (m : Ghosts B) (o : Opening) where
     }
       where
         clash : (j : ℕ) (a : Answer) (t : Told) → ◌≡◌ {A = Call B} other (stepped j a t) → ⊥
-        clash j a t c = let z : ◌≡◌ {A = ℕ} 0 1 = cc in omega arith
+        clash j a t c = cc
 
     marks_none : (n i : ℕ) → ◌≡◌ {A = ℕ} (get_or (replicate n 0) i 0) 0
     marks_none zero i = refl

@@ -276,7 +276,7 @@ pub record Opens (o : Opened) : Type 0 where
   pub within : some_beyond o.cells ≡ false
 
 not_refused : (x : OpenRefusal) (p : Bool) (r : Option OpenRefusal) → cond p (Some x) r ≡ None → (p ≡ false) × (r ≡ None)
-not_refused x true r e = let z : ◌≡◌ {A = ℕ} 0 1 = cc in absurd (omega arith)
+not_refused x true r e = cc
 not_refused x false r e = (refl, e)
 
 positive : (n : ℕ) → eqb n 0 ≡ false → 0 < n
@@ -463,7 +463,7 @@ module _ {B : Type 0} (m : Ghosts B) where
     pub records : w.used + kept w.seats + needed k (m.len b) ≤ w.sizes.journal
 
   none_of : (x : SeatRefusal) (p : Bool) (r : Option SeatRefusal) → cond p (Some x) r ≡ None → (p ≡ false) × (r ≡ None)
-  none_of x true r e = let z : ◌≡◌ {A = ℕ} 0 1 = cc in absurd (omega arith)
+  none_of x true r e = cc
   none_of x false r e = (refl, e)
 
   pub accepted : (w : World B) (k y : ℕ) (b : B) → seat_refusal m w k y b ≡ None → Accepted w k y b
@@ -473,7 +473,7 @@ module _ {B : Type 0} (m : Ghosts B) where
       by (way_of k y) refl (ltb-false _ _ a1.0) (idle_none _ a2.0) a2.1
     where
       by : (o : Option Way) → way_of k y ≡ o → k ≤ w.helpers → get_or w.seats k None ≡ None → way_refusal m w k b o ≡ None → Accepted w k y b
-      by None q l n r = let z : ◌≡◌ {A = ℕ} 0 1 = cc in absurd (omega arith)
+      by None q l n r = cc
       by (Some x) q l n r =
           let b1 = none_of _ (ltb w.sizes.cells (m.reach b)) _ r in
           let b2 = none_of _ (leb top_number w.shared.core.number) _ b1.1 in

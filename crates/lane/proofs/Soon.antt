@@ -273,7 +273,7 @@ module _ {B : Type 0} (m : Ghosts B) (o : Opening) (law : Laws m) where
     where
       none : {X : Type 0} (newer older : History B) → [] ≡ newer ++ older → flag_after older ≡ true → X
       none [] older q t = absurd (false≢true (ap (λ z. flag_after z) q ∙ t))
-      none (x ∷ newer) older q t = absurd (let z : ◌≡◌ {A = ℕ} 0 1 = cc in omega arith)
+      none (x ∷ newer) older q t = cc
   soon (seats h w k y b r idle fits) = soon_more h w (seat_of m w k y b) (moment m (seated k b) w.shared) (inv m o law (seats h w k y b r idle fits)) (up (seats h w k y b r idle fits)) (soon r) (λ c n _ bo q. on c n bo q (eqb k 0) refl)
     where
       on : (c : B) (n : ℕ) → body_of 0 h ≡ Some c → Progs m w.shared c n (w.seats 0) → (d : Bool) → eqb k 0 ≡ d → (cond (eqb k 0) (Some b) (body_of 0 h) ≡ Some c) × Progs m w.shared c (0 + n) (cond (eqb k 0) (Some (to (first_phase k) (record { body = b; way = y; start = 0; reads = []; writes = [] }))) (w.seats 0))

@@ -1,19 +1,16 @@
 -- What a write to a long list does to the stretches of it, and the logs by places.
-use Rattle.std.proofs.Common.{◌≡◌, ℕ, zero, suc, ◌+◌, ◌-◌, ◌*◌, ◌<◌, ◌≤◌, Bool, true, false, cond, ◌||◌, eqb, ltb, ◌≢◌, ◌⊎◌, List, [], ◌∷◌, ◌++◌, length, get_or, take, drop, set, ℤ, sym, refl, ap, ◌∙◌, subst, inl, inr, mul-le-mul_left, arith, length-append, length-drop, length-take, get_or-drop, get_or-take, take-suc-set, drop-set-lt}
+use Rattle.std.proofs.Common.{◌≡◌, ℕ, suc, ◌+◌, ◌-◌, ◌*◌, ◌<◌, ◌≤◌, Bool, true, false, cond, ◌||◌, eqb, ltb, ◌≢◌, ◌⊎◌, List, [], ◌∷◌, ◌++◌, length, take, drop, set, ℤ, sym, refl, ap, ◌∙◌, subst, inl, inr, mul-le-mul_left, arith, length-append, length-drop, length-take, take-suc-set, drop-set-lt}
 use mathlib.Core.Bool.{false≢true}
 use lib.Dec.{leb-suc-suc}
 use lib.Seq.{take-set-le, take-set-lt, drop-set-add}
-use Rattle.std.proofs.lemmas.Bool.{eq-eqb, ne_eqb, lt-ltb, ltb-true, cases_lt, cond_both, or_parts}
+use Rattle.std.proofs.lemmas.Bool.{lt-ltb, ltb-true, cases_lt, cond_both, or_parts}
 use Rattle.lane.specs.declared.written.Written.{Written}
-use Rattle.lane.specs.Logs.{holds, place_by, has, logged, enter, mem, no_entry, place, itself, cell_of, note}
+use Rattle.lane.specs.Logs.{holds, place_by, has, enter, mem, place, itself, cell_of, note}
 use Rattle.lane.specs.Worlds.{stretch}
 
 module _ {X : Type 0} (l : List X) (p : ℕ) where
   pub length_stretch : (n : ℕ) → p + n ≤ length l → length (stretch l p n) ≡ n
   length_stretch n h = rw (length-take, length-drop) (omega arith)
-
-  pub getD_stretch : (n i : ℕ) (d : X) → i < n → get_or (stretch l p n) i d ≡ get_or l (p + i) d
-  getD_stretch n i d h = get_or-take n (drop p l) i d h ∙ get_or-drop p l i d
 
   -- An entry more
   pub stretch_push : (n : ℕ) (x : X) → p + n < length l → stretch (set l (p + n) x) p (suc n) ≡ stretch l p n ++ (x ∷ [])
@@ -64,14 +61,6 @@ enter_old c v (x ∷ W) h = by (λ q. enter_old c v W q) (eqb x.cell c) refl
     by ih true e = refl
     by ih false e = ap (λ z. x ∷ z) (ih (rw e at h))
 
-pub logged_place : (c : ℕ) (y : ℤ) (W : List Written) → has c W ≡ true → logged c y W ≡ (get_or W (place c W) no_entry).amount
-logged_place c y [] h = absurd (false≢true h)
-logged_place c y (x ∷ W) h = by (λ q. logged_place c y W q) (eqb x.cell c) refl
-  where
-    by : (has c W ≡ true → logged c y W ≡ (get_or W (place c W) no_entry).amount) → (r : Bool) → eqb x.cell c ≡ r → cond r x.amount (logged c y W) ≡ (get_or (x ∷ W) (cond r 0 (suc (place c W))) no_entry).amount
-    by ih true e = refl
-    by ih false e = ih (rw e at h)
-
 -- An entry that leaves a log no longer than n lies within n
 pub noted_within : (c : ℕ) (R : List ℕ) (n : ℕ) → length R ≤ n → length (note c R) ≤ n → place_by itself c R < n
 noted_within c R n h l = by (mem c R) refl
@@ -92,20 +81,3 @@ entered_within c v W n h l = by (has c W) refl
         let q : length (W ++ (record { cell = c; amount = v } ∷ [])) ≤ n = subst (λ y. length y ≤ n) (enter_new c v W e) l in
         let u = length-append W (record { cell = c; amount = v } ∷ []) in
         omega (arith, place_few cell_of c W)
-
--- A search that has passed the first i entries
-module _ {E : Type 0} (f : E → ℕ) (c : ℕ) where
-  pub found_here : (i : ℕ) (L : List E) (d : E) → i < length L → f (get_or L i d) ≡ c → holds f c (take i L) ≡ false → (holds f c L ≡ true) × (place_by f c L ≡ i)
-  found_here i [] d h e n = absurd (omega arith)
-  found_here zero (x ∷ L) d h e n = rw (eq-eqb (f x) c e) (refl, refl)
-  found_here (suc i) (x ∷ L) d h e n =
-      let q = or_parts (eqb (f x) c) (holds f c (take i L)) n in
-      let r = found_here i L d (omega arith) e q.1 in
-      rw q.0 (r.0, ap suc r.1)
-
-  pub passed_more : (i : ℕ) (L : List E) (d : E) → i < length L → (f (get_or L i d) ≡ c → ⊥) → holds f c (take i L) ≡ false → holds f c (take (suc i) L) ≡ false
-  passed_more i [] d h e n = absurd (omega arith)
-  passed_more zero (x ∷ L) d h e n = rw (ne_eqb (f x) c e)
-  passed_more (suc i) (x ∷ L) d h e n =
-      let q = or_parts (eqb (f x) c) (holds f c (take i L)) n in
-      rw q.0 (passed_more i L d (omega arith) e q.1)

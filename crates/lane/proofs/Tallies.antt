@@ -50,8 +50,8 @@ data Parted (rs : List Record) (r x : Record) (before after : List Record) : Typ
   inside : (rest : List Record) → after ≡ rest ++ (r ∷ []) → rs ≡ before ++ (x ∷ rest) → Parted rs r x before after
 
 no_record : (x : Record) (before after : List Record) → ◌≡◌ {A = List Record} [] (before ++ (x ∷ after)) → ⊥
-no_record x [] after e = let z : ◌≡◌ {A = ℕ} 0 1 = cc in omega arith
-no_record x (y ∷ before) after e = let z : ◌≡◌ {A = ℕ} 0 1 = cc in omega arith
+no_record x [] after e = cc
+no_record x (y ∷ before) after e = cc
 
 parted : (rs : List Record) (r x : Record) (before after : List Record) → rs ++ (r ∷ []) ≡ before ++ (x ∷ after) → Parted rs r x before after
 parted [] r x [] after e = last (cc) refl (cc)
@@ -107,7 +107,7 @@ module _ (number : ℕ) (rs : List Record) (t : Tallied number rs) where
 
       at : (n seat kind tag count : ℕ) (before after : List Record)
           → Parted rs (Change number c v) (Commit n seat kind tag count) before after → Counted number before after n count
-      at n seat kind tag count before after (last a b d) = let z : ◌≡◌ {A = ℕ} 0 1 = cc in absurd (omega arith)
+      at n seat kind tag count before after (last a b d) = cc
       at n seat kind tag count before after (inside rest a b) =
           let z = t.counted before rest n seat kind tag count b in
           let x = changes_more n rest (Change number c v) in

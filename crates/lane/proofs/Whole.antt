@@ -79,9 +79,6 @@ module _ {B : Type 0} (m : Ghosts B) where
       journal = journal_long _ (record_of m w k s z) _ w.journal ∙ n.journal;
     }
 
-    lent_same : (p : Bool) → Lent w
-    lent_same p = n
-
     lent_step : (k : ℕ) → Lent (step_call m w k).world
     lent_step k = cond_both (ltb w.helpers k) _ _ (λ (d : After B). Lent d.world) (λ e. n) (λ e. by (get_or w.seats k None) (get_or w.bodies k None))
       where

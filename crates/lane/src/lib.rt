@@ -3,6 +3,7 @@
 #![tactic(auto)]
 
 mod answer;
+mod limits;
 mod phase;
 mod refusal;
 mod seated;
@@ -12,6 +13,7 @@ mod told;
 mod written;
 
 pub use answer::Answer;
+pub use limits::{MOST_READS, MOST_WRITES};
 pub use phase::{Phase, Way};
 pub use refusal::{OpenRefusal, PauseRefusal, SeatRefusal, StepRefusal};
 pub use seated::Seated;

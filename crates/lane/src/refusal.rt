@@ -68,7 +68,7 @@ impl StepRefusal {
     }
 }
 
-// A pause stands already.
+// A pause stands already. One refusal alone has no variants to number.
 #[derive(Clone, Copy, Debug, PartialEq)]
 pub struct PauseRefusal;
 

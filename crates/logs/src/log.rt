@@ -21,6 +21,7 @@ pub fn enter<E: Entry>(stretch: &mut [E], used: usize, entry: E) -> bool
     let end = used.min(stretch.len());
     let found = find(&stretch[..end], entry.cell_of());
     let at = found.unwrap_or(end);
+    // By `get_mut`: tried, and `returns-clause-laid` stayed open: what the stretch holds after a write to the place lent.
     if at < stretch.len() {
         stretch[at] = entry;
     }

@@ -1,47 +1,57 @@
 // The forms that steps have.
 ghost use Rattle.std.specs.Prelude.{◌≡◌, pos, slice_index_or};
-ghost use Rattle.lane.specs.Phases.{answers, breaks_off, commits_as, does, goes, hands, restarts, stays, takes_write, too_long};
+ghost use Rattle.lane.specs.Phases.{breaks_off, commits_as, does, goes, hands, restarts, stays, takes_write, too_long};
 
 use lane::{Answer, Effect, LogChange, Phase, Step, Told};
 
-pub(crate) fn answering(answer: Answer, effect: Effect, phase: Phase) -> Step
-    ensures { result ≡ answers answer effect phase }
-{
-    Step {
-        next: Some(phase),
-        answer,
-        told: Told::Nothing,
-        log: LogChange::Same,
-        effect,
-    }
-}
+// The seat becomes idle, and nothing else happens. The forms say in what they differ from this one.
+pub(crate) const IDLING: Step = Step {
+    next: None,
+    answer: Answer::GoneOn,
+    told: Told::Nothing,
+    log: LogChange::Same,
+    effect: Effect::Unchanged,
+};
 
 // Goes on, and changes nothing that is shared.
 pub(crate) fn going(phase: Phase) -> Step
     ensures { result ≡ goes phase }
 {
-    answering(Answer::GoneOn, Effect::Unchanged, phase)
+    Step {
+        next: Some(phase),
+        ..IDLING
+    }
 }
 
 // Goes on, and changes this one thing.
 pub(crate) fn doing(effect: Effect, phase: Phase) -> Step
     ensures { result ≡ does effect phase }
 {
-    answering(Answer::GoneOn, effect, phase)
+    Step {
+        effect,
+        ..going(phase)
+    }
 }
 
 // Stays, and changes nothing.
 pub(crate) fn staying(answer: Answer, phase: Phase) -> Step
     ensures { result ≡ stays answer phase }
 {
-    answering(answer, Effect::Unchanged, phase)
+    Step {
+        answer,
+        ..going(phase)
+    }
 }
 
 // The attempt is broken off, and begins anew.
 pub(crate) fn breaking_off(effect: Effect) -> Step
     ensures { result ≡ breaks_off effect }
 {
-    answering(Answer::BrokenOff, effect, Phase::Begin)
+    Step {
+        answer: Answer::BrokenOff,
+        effect,
+        ..going(Phase::Begin)
+    }
 }
 
 // The body is restarted, in an attempt with this start.
@@ -49,24 +59,22 @@ pub(crate) fn restarting(start: u32, effect: Effect, phase: Phase) -> Step
     ensures { result ≡ restarts start effect phase }
 {
     Step {
-        next: Some(phase),
-        answer: Answer::GoneOn,
         told: Told::Restarted(start),
         log: LogChange::Emptied,
         effect,
+        ..going(phase)
     }
 }
 
-// The body is told the amount that it asked for.
+// The body is told the amount that it asked for. A cell and its amount stay two parameters here and in the steps: requests,
+// tellings and effects hold them as two fields, so a struct of both would be built and taken apart again at each.
 pub(crate) fn handing(cell: u32, amount: i64, log: LogChange, phase: Phase) -> Step
     ensures { result ≡ hands cell amount log phase }
 {
     Step {
-        next: Some(phase),
-        answer: Answer::GoneOn,
         told: Told::Handed(cell, amount),
         log,
-        effect: Effect::Unchanged,
+        ..going(phase)
     }
 }
 
@@ -81,11 +89,10 @@ pub(crate) fn taking_write(
     ensures { result ≡ takes_write cell amount log effect phase }
 {
     Step {
-        next: Some(phase),
-        answer: Answer::GoneOn,
         told: Told::Taken(cell, amount),
         log,
         effect,
+        ..going(phase)
     }
 }
 
@@ -96,9 +103,8 @@ pub(crate) fn committing(number: u32, effect: Effect, next: Option<Phase>) -> St
     Step {
         next,
         answer: Answer::Committed(number),
-        told: Told::Nothing,
-        log: LogChange::Same,
         effect,
+        ..IDLING
     }
 }
 
@@ -107,11 +113,8 @@ pub(crate) fn giving_up() -> Step
     ensures { result ≡ too_long }
 {
     Step {
-        next: None,
         answer: Answer::TooLong,
-        told: Told::Nothing,
-        log: LogChange::Same,
-        effect: Effect::Unchanged,
+        ..IDLING
     }
 }
 
@@ -119,6 +122,5 @@ pub(crate) fn giving_up() -> Step
 pub(crate) fn amount_at(cells: &[i64], cell: u32) -> i64
     ensures { result ≡ slice_index_or cells.now cell (pos 0) }
 {
-    let at = cell as usize;
-    if at < cells.len() { cells[at] } else { 0 }
+    cells.get(cell as usize).copied().unwrap_or(0)
 }

@@ -1,9 +1,9 @@
 // The steps by which a helper comes to its commit, or gives the attempt up.
-ghost use Rattle.std.specs.Prelude.{◌≡◌};
+ghost use Rattle.std.specs.Prelude.{◌≡◌, ◌+◌, cond, Some, None, nat_lt};
 ghost use Rattle.lane.specs.Phases.{after_release, after_swap, cell_step, leave_step, let_go_step, look_even, look_step, mark_step, prevalidate_step, quit_step, release_step, swap_step, validate_step, wait_step, way_step};
 
-use super::forms::{breaking_off, committing, doing, going, staying};
-use lane::{Answer, Effect, LogChange, Phase, Step, Told, Way};
+use super::forms::{IDLING, breaking_off, committing, doing, going, staying};
+use lane::{Answer, Effect, Phase, Step, Way};
 
 // The first step of each way.
 pub(crate) fn first_of_way(number: u32, way: Way) -> Step
@@ -11,8 +11,7 @@ pub(crate) fn first_of_way(number: u32, way: Way) -> Step
 {
     match way {
         Way::One => look(number, Way::One, None),
-        Way::Two => doing(Effect::QueueJoined, Phase::Wait),
-        Way::Three => doing(Effect::QueueJoined, Phase::Wait),
+        Way::Two | Way::Three => doing(Effect::QueueJoined, Phase::Wait),
     }
 }
 
@@ -41,23 +40,19 @@ pub fn look(number: u32, way: Way, checked: Option<u32>) -> Step
 fn look_even(number: u32, way: Way, checked: Option<u32>) -> Step
     ensures { result ≡ look_even number way checked }
 {
-    let prevalidate = Phase::Prevalidate {
-        seen: number,
-        at: 0,
-    };
-    match way {
-        Way::One => going(Phase::Swap {
+    match (way, checked) {
+        (Way::One, _) => going(Phase::Swap {
             checked: None,
             seen: number,
         }),
-        Way::Two => match checked {
-            None => going(prevalidate),
-            Some(first) => going(Phase::Swap {
-                checked: Some(first),
-                seen: number,
-            }),
-        },
-        Way::Three => going(prevalidate),
+        (Way::Two, Some(first)) => going(Phase::Swap {
+            checked: Some(first),
+            seen: number,
+        }),
+        (Way::Two, None) | (Way::Three, _) => going(Phase::Prevalidate {
+            seen: number,
+            at: 0,
+        }),
     }
 }
 
@@ -68,13 +63,13 @@ pub fn prevalidate(stale: bool, count: u32, seen: u32, at: u32) -> Step
     if stale {
         return going(Phase::Quit);
     }
-    if at < count && at + 1 < count {
-        return going(Phase::Prevalidate { seen, at: at + 1 });
+    match next_entry(at, count) {
+        Some(at) => going(Phase::Prevalidate { seen, at }),
+        None => going(Phase::Swap {
+            checked: Some(seen),
+            seen,
+        }),
     }
-    going(Phase::Swap {
-        checked: Some(seen),
-        seen,
-    })
 }
 
 // Takes the lane, if the word is still the number that was seen, with the flag clear.
@@ -93,28 +88,23 @@ fn after_swap(checked: Option<u32>, seen: u32) -> Phase
     ensures { result ≡ after_swap checked seen }
 {
     match checked {
-        None => Phase::Validate { at: 0 },
-        Some(first) => {
-            if first < seen {
-                Phase::Validate { at: 0 }
-            } else {
-                Phase::Mark { at: 0 }
-            }
-        }
+        Some(first) if first >= seen => Phase::Mark { at: 0 },
+        _ => Phase::Validate { at: 0 },
     }
 }
 
-// Goes to the next entry if this one is fresh, in the lane.
+// Goes to the next entry if this one is fresh, in the lane. Each phase that it goes to differs from those of `prevalidate`, so
+// one function of both would take three phases and be no plainer.
 pub fn validate(stale: bool, count: u32, at: u32) -> Step
     ensures { result ≡ validate_step stale count at }
 {
     if stale {
         return going(Phase::LetGo);
     }
-    if at < count && at + 1 < count {
-        return going(Phase::Validate { at: at + 1 });
+    match next_entry(at, count) {
+        Some(at) => going(Phase::Validate { at }),
+        None => going(Phase::Mark { at: 0 }),
     }
-    going(Phase::Mark { at: 0 })
 }
 
 // Sets the mark of an entry's cell.
@@ -128,10 +118,17 @@ pub fn mark(cell: u32, at: u32) -> Step
 pub fn set_cell(cell: u32, amount: i64, count: u32, at: u32) -> Step
     ensures { result ≡ cell_step cell amount count at }
 {
-    if at < count && at + 1 < count {
-        return doing(Effect::CellSet(cell, amount), Phase::Mark { at: at + 1 });
+    match next_entry(at, count) {
+        Some(at) => doing(Effect::CellSet(cell, amount), Phase::Mark { at }),
+        None => doing(Effect::CellSet(cell, amount), Phase::Release),
     }
-    doing(Effect::CellSet(cell, amount), Phase::Release)
+}
+
+// The place of the entry after this one, of so many entries, if there is one.
+fn next_entry(at: u32, count: u32) -> Option<u32>
+    ensures { result ≡ cond (nat_lt (at + 1) count) (Some (at + 1)) None }
+{
+    at.checked_add(1).filter(|next| *next < count)
 }
 
 // Commits under the odd number, and gives the lane back.
@@ -146,8 +143,7 @@ fn after_release(way: Way) -> Option<Phase>
 {
     match way {
         Way::One => None,
-        Way::Two => Some(Phase::Leave),
-        Way::Three => Some(Phase::Leave),
+        Way::Two | Way::Three => Some(Phase::Leave),
     }
 }
 
@@ -157,8 +153,7 @@ pub fn let_go(way: Way) -> Step
 {
     match way {
         Way::One => breaking_off(Effect::NumberLowered),
-        Way::Two => doing(Effect::NumberLowered, Phase::Quit),
-        Way::Three => doing(Effect::NumberLowered, Phase::Quit),
+        Way::Two | Way::Three => doing(Effect::NumberLowered, Phase::Quit),
     }
 }
 
@@ -174,10 +169,7 @@ pub fn leave() -> Step
     ensures { result ≡ leave_step }
 {
     Step {
-        next: None,
-        answer: Answer::GoneOn,
-        told: Told::Nothing,
-        log: LogChange::Same,
         effect: Effect::QueueLeft,
+        ..IDLING
     }
 }
