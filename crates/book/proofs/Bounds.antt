@@ -17,12 +17,6 @@ module _ {B : Type 0} (w : World B) (h : ∥ Sane w ∥₁) where
   pub few_cells : w.sizes.cells ≤ 4096
   few_cells = ∥∥₁_elim h le_prop (λ i. i.sized.few_cells)
 
-  pub small_number : w.shared.core.number ≤ 2147483618
-  small_number = ∥∥₁_elim h le_prop (λ i. omega (arith, i.below))
-
-  pub used_few : w.used ≤ 65536
-  used_few = ∥∥₁_elim h le_prop (λ i. omega (arith, i.used_within, i.sized.few_records))
-
   pub few_records : w.sizes.journal ≤ 65536
   few_records = ∥∥₁_elim h le_prop (λ i. i.sized.few_records)
 

@@ -3,7 +3,7 @@ use Rattle.std.proofs.Common.{◌≡◌, ℕ, Bool, false, List, [], length, rep
 use mathlib.Core.Logic.{∥∥₁_map}
 use Rattle.body.specs.declared.body.Body.{Ghosts}
 use Rattle.lane.specs.declared.refusal.SeatRefusal.{SeatRefusal}
-use Rattle.lane.specs.Calls.{Opened, open_refusal, open_world, seat_by, seat_call, seat_refusal, step_call}
+use Rattle.lane.specs.Calls.{Opened, open_refusal, open_world, seat_by, seat_call, seat_refusal, seat_world, step_call}
 use Rattle.lane.specs.Sane.{Sane}
 use Rattle.lane.specs.Worlds.{World}
 use Rattle.lane.proofs.Sanity.{opens_well, sane_open, sane_seat, sane_step}
@@ -59,6 +59,9 @@ module _ {B : Type 0} where
 
   -- Seat and step.
   module _ (m : Ghosts B) (d d' : Desk B) where
+    pub placed : (k y t : ℕ) (b : B) → None ≡ seat_refusal m (bare d) k y b → bare d' ≡ seat_world m (bare d) k y t b → bare d' ≡ (seat_call m (bare d) k y t b).world
+    placed k y t b n e = e ∙ ap (λ r. (seat_by m (bare d) k y t b r).world) n
+
     pub seated_lent : (k y t : ℕ) (b : B) → bare d' ≡ (seat_call m (bare d) k y t b).world → (l : Lists) → world d' l ≡ (seat_call m (world d l) k y t b).world
     seated_lent k y t b e l = ap (λ w. relent w l) e ∙ by (seat_refusal m (bare d) k y b)
       where

@@ -29,7 +29,7 @@ use Rattle.book.specs.declared.ready.Ready.{Ready}
 use Rattle.book.specs.Views.{ReadsFit, WritesFit, ready_of, ready_by, CanAct}
 
 -- What a ready seat is.
-pub record IsReady {B : Type 0} (m : Ghosts B) (w : World B) (k : ℕ) (r : Ready) : Type 0 where
+record IsReady {B : Type 0} (m : Ghosts B) (w : World B) (k : ℕ) (r : Ready) : Type 0 where
   pub seat : k ≤ w.helpers
   pub seated : get_or w.seats k None ≡ Some r.seated
   pub body : B
@@ -39,7 +39,7 @@ pub record IsReady {B : Type 0} (m : Ghosts B) (w : World B) (k : ℕ) (r : Read
   pub kind : r.kind ≡ m.KIND
 
 module _ {B : Type 0} (m : Ghosts B) (w : World B) (k : ℕ) where
-  pub is_ready : (r : Ready) → Ok r ≡ ready_of m w k → IsReady m w k r
+  is_ready : (r : Ready) → Ok r ≡ ready_of m w k → IsReady m w k r
   is_ready r e = by (ltb w.helpers k) refl e
     where
       inner : k ≤ w.helpers → (x : Option Seated) → get_or w.seats k None ≡ x → (y : Option B) → get_or w.bodies k None ≡ y → Ok r ≡ ready_by m w k x y → IsReady m w k r
@@ -58,7 +58,7 @@ module _ {B : Type 0} (m : Ghosts B) (w : World B) (k : ℕ) where
       by false l h = inner (ltb-false w.helpers k l) (get_or w.seats k None) refl (get_or w.bodies k None) refl h
 
   -- What the call answers and leaves then.
-  pub ready_reply : (r : Ready) (i : IsReady m w k r) → Ok r.step.answer ≡ step_reply m w k
+  ready_reply : (r : Ready) (i : IsReady m w k r) → Ok r.step.answer ≡ step_reply m w k
   ready_reply r i =
       ap {B = Result Answer StepRefusal} (λ (z : Step). Ok z.answer) i.step
       ∙ sym (rw (seat_there, i.seated, i.held, i.can))
@@ -66,13 +66,19 @@ module _ {B : Type 0} (m : Ghosts B) (w : World B) (k : ℕ) where
       seat_there : ltb w.helpers k ≡ false
       seat_there = le-ltb w.helpers k i.seat
 
-  pub ready_world : (r : Ready) (i : IsReady m w k r) → step_world m w k r.seated i.body r.step ≡ (step_call m w k).world
+  ready_world : (r : Ready) (i : IsReady m w k r) → step_world m w k r.seated i.body r.step ≡ (step_call m w k).world
   ready_world r i =
       ap (λ z. step_world m w k r.seated i.body z) i.step
       ∙ sym (rw (seat_there, i.seated, i.held, i.can))
     where
       seat_there : ltb w.helpers k ≡ false
       seat_there = le-ltb w.helpers k i.seat
+
+  pub replied : (r : Ready) → Ok r ≡ ready_of m w k → Ok (record { answer = r.step.answer; number = r.step.number }) ≡ step_reply m w k
+  replied r e = ready_reply r (is_ready r e)
+
+  pub acted : (r : Ready) (w' : World B) → Ok r ≡ ready_of m w k → ((b : B) → get_or w.bodies k None ≡ Some b → w' ≡ step_world m w k r.seated b r.step) → w' ≡ (step_call m w k).world
+  acted r w' e h = let i = is_ready r e in h i.body i.held ∙ ready_world r i
 
   -- A refusal.
   pub refused_reply : (x : StepRefusal) → Err x ≡ ready_of m w k → (Err x ≡ step_reply m w k) × (w ≡ (step_call m w k).world)
@@ -155,13 +161,13 @@ module _ {B : Type 0} (m : Ghosts B) (w : World B) (i : Sane w) (k : ℕ) (r : R
   inside : k < length w.seats
   inside = omega (arith, i.all_seated, i.sized.few, y.seat)
 
-  pub lowers_some : z.effect ≡ NumberLowered → 0 < w.shared.core.number
+  lowers_some : z.effect ≡ NumberLowered → 0 < w.shared.core.number
   lowers_some e =
       let a : lowers s.phase ≡ 1 = subst (λ x. Lowering x (lowers s.phase)) e steady_now.lowering in
       let b : lowers_of (get_or w.seats k None) ≡ lowers s.phase = ap (λ x. lowers_of x) y.seated in
       omega (arith, total_at lowers_of w.seats k None inside, i.above)
 
-  pub joins_room : z.effect ≡ QueueJoined → length w.shared.queue < 8
+  joins_room : z.effect ≡ QueueJoined → length w.shared.queue < 8
   joins_room e =
       let q : (joined s.way s.phase ≡ 0) × (of_next (joined s.way) z.next ≡ 1) = subst (λ x. Queues s.way s.phase x z.next) e steady_now.queue in
       let a : joined_of (get_or w.seats k None) ≡ 0 = ap (λ x. joined_of x) y.seated ∙ q.0 in
@@ -191,7 +197,7 @@ module _ {B : Type 0} (m : Ghosts B) (w : World B) (i : Sane w) (k : ℕ) (r : R
   few : k ≤ 8
   few = omega (arith, i.sized.few, y.seat)
 
-  pub reads_fit : ReadsFit z.log k s w.reads
+  reads_fit : ReadsFit z.log k s w.reads
   reads_fit = by z.log steady_now.few_reads steady_now.plain
     where
       by : (c : LogChange) → length (reads_after c (read_log w k s)) ≤ most_reads → (masters s.phase ≡ true → Plain c) → ReadsFit c k s w.reads
@@ -202,7 +208,7 @@ module _ {B : Type 0} (m : Ghosts B) (w : World B) (i : Sane w) (k : ℕ) (r : R
           (k≥1, few, stretch_fits 64 k w.helpers 64 (length w.reads) y.seat (λ q. absurd (omega arith)) (omega arith) (omega (arith, lent.reads, i.sized.long_reads)), fair.few_reads, noted_within c (read_log w k s) 64 (rw (length_reads w i lent k s y.seat fair) fair.few_reads) h)
       by (Entered c v) h p = tt
 
-  pub writes_fit : WritesFit z.log k s w.writes
+  writes_fit : WritesFit z.log k s w.writes
   writes_fit = by z.log steady_now.few_writes steady_now.plain
     where
       by : (c : LogChange) → length (writes_after c (write_log w k s)) ≤ most_writes → (masters s.phase ≡ true → Plain c) → WritesFit c k s w.writes
@@ -213,7 +219,7 @@ module _ {B : Type 0} (m : Ghosts B) (w : World B) (i : Sane w) (k : ℕ) (r : R
           let k≥1 = not_master (Entered c v) (λ x. x) p in
           (k≥1, few, stretch_fits 32 k w.helpers 32 (length w.writes) y.seat (λ q. absurd (omega arith)) (omega arith) (omega (arith, lent.writes, i.sized.long_writes)), fair.few_writes, entered_within c v (write_log w k s) 32 (rw (length_writes w i lent k s y.seat fair) fair.few_writes) h)
 
-  pub can_act : CanAct m w k r
+  can_act : CanAct m w k r
   can_act = record {
     kind_is = y.kind;
     seat = few;
@@ -242,19 +248,19 @@ writes_in (Noted c) k s l h = tt
 writes_in (Entered c v) k s l h =
     (∥∥₁_elim h le_prop (λ x. x.0), ∥∥₁_elim h le_prop (λ x. x.1), ∥∥₁_elim h le_prop (λ x. x.2), ∥∥₁_elim h le_prop (λ x. x.3), ∥∥₁_elim h le_prop (λ x. x.4))
 
-pub acts : {B : Type 0} (m : Ghosts B) (w : World B) → ∥ Sane w ∥₁ → (k : ℕ) (r : Ready) → IsReady m w k r → CanAct m w k r
-acts {B} m w h k r y = record {
-  kind_is = y.kind;
+pub acts : {B : Type 0} (m : Ghosts B) (w : World B) → ∥ Sane w ∥₁ → (k : ℕ) (r : Ready) → Ok r ≡ ready_of m w k → CanAct m w k r
+acts {B} m w h k r e = record {
+  kind_is = (is_ready m w k r e).kind;
   seat = ∥∥₁_elim h le_prop (λ i. (can i).seat);
-  journal_is = (lent_from w (and_parts (same_sizes w) _ y.can).0).journal;
+  journal_is = (lent_from w (and_parts (same_sizes w) _ (is_ready m w k r e).can).0).journal;
   some_marks = ∥∥₁_elim h le_prop (λ i. (can i).some_marks);
   small = ∥∥₁_elim h le_prop (λ i. (can i).small);
   few_made = ∥∥₁_elim h le_prop (λ i. (can i).few_made);
-  lowers = λ e. ∥∥₁_elim h le_prop (λ i. (can i).lowers e);
-  joins = λ e. ∥∥₁_elim h le_prop (λ i. (can i).joins e);
+  lowers = λ z. ∥∥₁_elim h le_prop (λ i. (can i).lowers z);
+  joins = λ z. ∥∥₁_elim h le_prop (λ i. (can i).joins z);
   reads = reads_in r.step.log k r.seated w.reads (∥∥₁_map h (λ i. (can i).reads));
   writes = writes_in r.step.log k r.seated w.writes (∥∥₁_map h (λ i. (can i).writes));
 }
   where
     can : Sane w → CanAct m w k r
-    can i = can_act m w i k r y
+    can i = can_act m w i k r (is_ready m w k r e)

@@ -1,4 +1,5 @@
-// The lists that are lent to each call of a book.
+// The lists that are lent to each call of a book. There is no heap, so a book owns none, and keeps beside them how much of the
+// logs and of the journal is used.
 use journal::Record;
 use lane::Written;
 

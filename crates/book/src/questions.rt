@@ -51,7 +51,7 @@ impl<B: Body> Book<B> {
     {
         let used = self.desk.used.min(lists.journal.len());
         let journal = &*lists.journal;
-        journal::line(&journal[0..used], i, buffer, place)
+        journal::line(&journal[..used], i, buffer, place)
     }
 }
 
@@ -66,17 +66,12 @@ fn seat_word<B>(chairs: &[Chair<B>]) -> u32
         .fold(0, |word, chair| word << 1 | bit(chair.seated))
 }
 
+// 1 for a seat that is under way, and 0 for any other.
 fn bit(seat: Option<Seated>) -> u32
     ensures { result ≡ seat_bit seat }
 {
-    match seat {
-        None => 0,
-        Some(
-            Seated {
-                phase: Phase::Reserve | Phase::Begin,
-                ..
-            },
-        ) => 0,
+    match seat.map(|seated| seated.phase) {
+        None | Some(Phase::Reserve | Phase::Begin) => 0,
         Some(_) => 1,
     }
 }

@@ -28,6 +28,7 @@ impl<B> Desk<B> {
 }
 
 impl<B: Body> Book<B> {
+    // What the seat is to do, or why it may not step.
     pub(crate) fn ready(&self, lists: &Lists<'_>, seat: u32) -> Result<Ready, StepRefusal>
         ensures { result ≡ ready_of B.Body (book_world self.now lists.now) seat }
     {

@@ -127,14 +127,11 @@ fn records_kept<B>(chairs: &[Chair<B>]) -> usize
 fn keeps(seat: Option<Seated>) -> u32
     ensures { result ≡ kept_by seat }
 {
-    match seat {
-        None => 0,
-        Some(
-            Seated {
-                phase: Phase::Leave,
-                ..
-            },
-        ) => 0,
-        Some(seated) => seated.keeps,
+    let Some(seated) = seat else {
+        return 0;
+    };
+    match seated.phase {
+        Phase::Leave => 0,
+        _ => seated.keeps,
     }
 }

@@ -4,7 +4,8 @@ ghost use Rattle.std.specs.Prelude.{◌≡◌, false};
 pub struct Ticket {
     // The name of the book that is paused.
     pub(crate) book: u32,
-    // Whether it is still to be given to resume.
+    // Whether it is still to be given to resume: a field and not a type with no Drop, of which no clause could say that pause
+    // gives one.
     pub(crate) owed: bool,
 }
 

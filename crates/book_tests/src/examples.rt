@@ -262,10 +262,9 @@ fn examples_7_and_8(rt: HostRuntime) -> Result<(), Fail> {
 }
 
 fn unposted(heap: Global) -> Result<Import, Fail> {
-    match check_text("H\tDKK\nP\t0\t0.01\n".as_bytes().to_vec(heap)?) {
-        Ok(checked) => Ok(Import::new(checked)),
-        Err(_) => Err(Fail::new("the text is refused")),
-    }
+    let text = "H\tDKK\nP\t0\t0.01\n".as_bytes().to_vec(heap)?;
+    let checked = check_text(text).map_err(|_| Fail::new("the text is refused"))?;
+    Ok(Import::new(checked))
 }
 
 // Told what the cell holds, the import counts its line.

@@ -52,20 +52,17 @@ pub(crate) fn lay(heap: Global, cells: &[i64], lengths: Lengths) -> Result<Shelf
     })
 }
 
-pub(crate) fn open_on<B: Body + Drop>(
-    shelf: &mut Shelf,
-    name: u32,
-    helpers: u32,
-    number: u32,
-) -> Result<Book<B>, OpenRefusal> {
-    let mut lists = Lists {
+fn lend(shelf: &mut Shelf) -> Lists<'_> {
+    Lists {
         cells: shelf.cells.as_mut_slice(),
         marks: shelf.marks.as_mut_slice(),
         reads: shelf.reads.as_mut_slice(),
         writes: shelf.writes.as_mut_slice(),
         journal: shelf.journal.as_mut_slice(),
-    };
-    let opened = Book::open(name, &mut lists, helpers, number);
+    }
+}
+
+fn give_back(lists: Lists<'_>) {
     let Lists {
         cells: _,
         marks: _,
@@ -73,6 +70,17 @@ pub(crate) fn open_on<B: Body + Drop>(
         writes: _,
         journal: _,
     } = lists;
+}
+
+pub(crate) fn open_on<B: Body + Drop>(
+    shelf: &mut Shelf,
+    name: u32,
+    helpers: u32,
+    number: u32,
+) -> Result<Book<B>, OpenRefusal> {
+    let mut lists = lend(shelf);
+    let opened = Book::open(name, &mut lists, helpers, number);
+    give_back(lists);
     opened
 }
 
@@ -81,21 +89,9 @@ pub(crate) fn step_on<B: Body + Drop>(
     shelf: &mut Shelf,
     seat: u32,
 ) -> Result<Answer, StepRefusal> {
-    let mut lists = Lists {
-        cells: shelf.cells.as_mut_slice(),
-        marks: shelf.marks.as_mut_slice(),
-        reads: shelf.reads.as_mut_slice(),
-        writes: shelf.writes.as_mut_slice(),
-        journal: shelf.journal.as_mut_slice(),
-    };
+    let mut lists = lend(shelf);
     let answer = book.step(&mut lists, seat);
-    let Lists {
-        cells: _,
-        marks: _,
-        reads: _,
-        writes: _,
-        journal: _,
-    } = lists;
+    give_back(lists);
     answer
 }
 
