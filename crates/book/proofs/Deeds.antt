@@ -74,7 +74,7 @@ module _ {B : Type 0} (m : Ghosts B) (w : World B) (k : ℕ) where
       seat_there : ltb w.helpers k ≡ false
       seat_there = le-ltb w.helpers k i.seat
 
-  pub replied : (r : Ready) → Ok r ≡ ready_of m w k → Ok (record { answer = r.step.answer; number = r.step.number }) ≡ step_reply m w k
+  pub replied : (r : Ready) → Ok r ≡ ready_of m w k → Ok r.step.answer ≡ step_reply m w k
   replied r e = ready_reply r (is_ready r e)
 
   pub acted : (r : Ready) (w' : World B) → Ok r ≡ ready_of m w k → ((b : B) → get_or w.bodies k None ≡ Some b → w' ≡ step_world m w k r.seated b r.step) → w' ≡ (step_call m w k).world

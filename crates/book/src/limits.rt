@@ -9,9 +9,9 @@ pub(crate) const MOST_HELPERS: u32 = 8;
 pub(crate) const SEATS: usize = 9;
 
 // The entries of a helper's read log, and of its write log.
-pub(crate) const MOST_READS: usize = 64;
+pub(crate) const MOST_READS: usize = lane::MOST_READS as usize;
 
-pub(crate) const MOST_WRITES: usize = 32;
+pub(crate) const MOST_WRITES: usize = lane::MOST_WRITES as usize;
 
 pub(crate) const MOST_RECORDS: usize = 65_536;
 

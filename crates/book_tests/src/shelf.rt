@@ -62,16 +62,6 @@ fn lend(shelf: &mut Shelf) -> Lists<'_> {
     }
 }
 
-fn give_back(lists: Lists<'_>) {
-    let Lists {
-        cells: _,
-        marks: _,
-        reads: _,
-        writes: _,
-        journal: _,
-    } = lists;
-}
-
 pub(crate) fn open_on<B: Body + Drop>(
     shelf: &mut Shelf,
     name: u32,
@@ -79,9 +69,7 @@ pub(crate) fn open_on<B: Body + Drop>(
     number: u32,
 ) -> Result<Book<B>, OpenRefusal> {
     let mut lists = lend(shelf);
-    let opened = Book::open(name, &mut lists, helpers, number);
-    give_back(lists);
-    opened
+    Book::open(name, &mut lists, helpers, number)
 }
 
 pub(crate) fn step_on<B: Body + Drop>(
@@ -90,9 +78,7 @@ pub(crate) fn step_on<B: Body + Drop>(
     seat: u32,
 ) -> Result<Answer, StepRefusal> {
     let mut lists = lend(shelf);
-    let answer = book.step(&mut lists, seat);
-    give_back(lists);
-    answer
+    book.step(&mut lists, seat)
 }
 
 pub(crate) fn sits<B: Body + Drop>(
