@@ -7,6 +7,7 @@ use Rattle.lane.specs.declared.refusal.StepRefusal.TheVariants.{NoSeat, Idle, Li
 use Rattle.lane.specs.Calls.{Opened, all_seats, sizes_of, can_step, made_by, step_now}
 use Rattle.lane.specs.Effects.{start_after}
 use Rattle.lane.specs.declared.seated.Seated.{Seated}
+use Rattle.lane.specs.declared.sizes.Sizes.{Sizes}
 use Rattle.lane.specs.declared.step.Effect.{Effect}
 use Rattle.lane.specs.declared.step.Effect.TheVariants.{Unchanged, FlagSet, LaneTaken, MarkSet, CellSet, NumberRaised, NumberLowered, QueueJoined, QueueLeft}
 use Rattle.lane.specs.declared.step.LogChange.{LogChange}
@@ -116,6 +117,10 @@ bare d = record {
   writes = [];
   journal = [];
 }
+
+-- How long the lists are.
+abbrev pub sizes_now : Lists → Sizes
+sizes_now l = record { cells = length l.cells.now; marks = length l.marks.now; reads = length l.reads.now; writes = length l.writes.now; journal = length l.journal.now }
 
 -- What a book is opened with.
 abbrev pub opened_with : ℕ → ℕ → ℕ → Lists → Opened

@@ -105,6 +105,7 @@ impl<B: Body + Drop> Book<B> {
 }
 
 impl ResumeRefusal {
+    // A match, since an enum that holds a ticket has no number of its own.
     pub fn number(&self) -> u32
         ensures { result ≡ resume_refusal_number self.now }
     {

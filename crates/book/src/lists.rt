@@ -1,7 +1,10 @@
 // The lists that are lent to each call of a book. There is no heap, so a book owns none, and keeps beside them how much of the
 // logs and of the journal is used.
+ghost use Rattle.std.specs.Prelude.{◌≡◌};
+ghost use Rattle.book.specs.Views.{sizes_now};
+
 use journal::Record;
-use lane::Written;
+use lane::{Sizes, Written};
 
 #[derive(Drop)]
 pub struct Lists<'a> {
@@ -11,4 +14,19 @@ pub struct Lists<'a> {
     pub reads: &'a mut [u32],
     pub writes: &'a mut [Written],
     pub journal: &'a mut [Record],
+}
+
+impl Lists<'_> {
+    // How long they are.
+    pub(crate) fn sizes(&self) -> Sizes
+        ensures { result ≡ sizes_now self.now }
+    {
+        Sizes {
+            cells: self.cells.len(),
+            marks: self.marks.len(),
+            reads: self.reads.len(),
+            writes: self.writes.len(),
+            journal: self.journal.len(),
+        }
+    }
 }

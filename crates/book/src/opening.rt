@@ -11,7 +11,7 @@ use super::limits::{
     MOST_CELLS, MOST_HELPERS, MOST_MARKS, MOST_READS, MOST_RECORDS, MOST_WRITES, TOP_NUMBER,
 };
 use super::lists::Lists;
-use lane::{OpenRefusal, Sizes};
+use lane::OpenRefusal;
 use money::is_within;
 use queue::Queue;
 
@@ -58,19 +58,15 @@ impl Terms {
         Desk {
             name: self.name,
             helpers: self.helpers,
-            sizes: Sizes {
-                cells: lists.cells.len(),
-                marks: lists.marks.len(),
-                reads: lists.reads.len(),
-                writes: lists.writes.len(),
-                journal: lists.journal.len(),
-            },
+            sizes: lists.sizes(),
             common: Common {
                 number: self.number,
                 flag: false,
                 paused: false,
                 queue: Queue::new(),
             },
+            // Nine of them by a repeat: tried, and the borrow checker covers none of what is not Copy. By `array::from_fn`: tried,
+            // and `returns` stayed open.
             chairs: [
                 Chair::empty(),
                 Chair::empty(),

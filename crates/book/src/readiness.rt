@@ -20,10 +20,7 @@ impl<B> Desk<B> {
     pub(crate) fn lent_whole(&self, lists: &Lists<'_>) -> bool
         ensures { result ≡ same_sizes (world self.now lists.now) }
     {
-        let sizes = self.sizes;
-        let cells = lists.cells.len() == sizes.cells && lists.marks.len() == sizes.marks;
-        let logs = lists.reads.len() == sizes.reads && lists.writes.len() == sizes.writes;
-        cells && (logs && lists.journal.len() == sizes.journal)
+        lists.sizes() == self.sizes
     }
 }
 

@@ -1,6 +1,6 @@
 // How long the lists of a book were when it was opened.
 
-#[derive(Clone, Copy)]
+#[derive(Clone, Copy, Debug, PartialEq, Eq)]
 pub struct Sizes {
     pub cells: usize,
     pub marks: usize,

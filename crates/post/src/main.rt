@@ -6,11 +6,11 @@ use input::read_at_most;
 use posts::post;
 use std::io::Write;
 
-// One byte more than a text may have, so that a longer one is seen to be too long.
-const MOST_KEPT: usize = MOST_BYTES + 1;
-
+// The program that lists has the same three lines over another function; one runner for both would take that function and its
+// error's type as parameters, and be longer than both.
 fn main(rt: HostRuntime) -> anyhow::Result<()> {
-    let text = read_at_most(rt.alloc(), &mut rt.stdin(), MOST_KEPT)?;
+    // One byte more than a text may have, so that a longer one is seen to be too long.
+    let text = read_at_most(rt.alloc(), &mut rt.stdin(), MOST_BYTES + 1)?;
     let out = post(rt.alloc(), text)?;
     rt.stdout().write_all(out.as_bytes())?;
     Ok(())
