@@ -54,6 +54,7 @@ fn set_cell(cells: &mut [i64], cell: u32, amount: i64)
     ensures { cells.new ≡ slice_set cells.old cell amount }
 {
     let at = cell as usize;
+    // By `get_mut`: tried, and `returns-in-Some` stayed open, since only a slice's length is known once its place was lent.
     if at < cells.len() {
         cells[at] = amount;
     }

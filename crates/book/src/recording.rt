@@ -60,6 +60,7 @@ pub(crate) fn note(journal: &mut [Record], used: usize, entry: Option<Record>) -
     let Some(entry) = entry else {
         return used;
     };
+    // By `get_mut`: tried, and `returns-in-Some-get_mut-clause-after` stayed open, as where a cell is set.
     if used < journal.len() {
         journal[used] = entry;
         used + 1
