@@ -17,6 +17,6 @@ pub enum TotalStep {
     Done,
 }
 
-// The range runs backward, or a cell lies above the highest.
+// The range runs backward, or a cell lies above the highest. One refusal alone has no variants to number.
 #[derive(Clone, Copy, Debug, PartialEq)]
 pub struct TotalRefusal;

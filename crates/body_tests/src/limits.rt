@@ -1,4 +1,4 @@
-// Amounts at the limit and beyond it.
+// Amounts at the limit and beyond it, written out and not taken from the program that is tested.
 
 pub const LIMIT: i64 = 1_000_000_000_000_000;
 

@@ -66,7 +66,8 @@ impl Sight<'_> {
         (cell as usize) < self.cells.len()
     }
 
-    // What the master's body asks for.
+    // What the master's body asks for. Its cell fits 32 bits; a type of narrow requests would be `Request` written again. `as` is
+    // proved to lose nothing here, where `try_from` would want a refusal that cannot come.
     fn master(&self, request: Request) -> Step
         requires { IsNarrow request }
         ensures { result ≡ master_run_step self.now.common.now.number self.now.cells.now request }

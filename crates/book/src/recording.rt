@@ -2,42 +2,38 @@
 ghost use Rattle.std.specs.Prelude.{◌≡◌, ◌+◌, ◌^◌, ◌<◌, length, nat_lt};
 ghost use Rattle.lane.specs.Calls.{commit_record, journal_after, made_by, record_by, used_after};
 
+use super::ready::Ready;
 use journal::Record;
-use lane::{Answer, Effect, Seated, Step};
+use lane::{Answer, Effect};
 
-// The record of a step: of the change, where it sets a cell, and otherwise of the commit, where it commits.
-pub(crate) fn record_of(
-    kind: u32,
-    seat: u32,
-    seated: Seated,
-    number: u32,
-    step: Step,
-) -> Option<Record>
-    ensures { result ≡ record_by step.effect number (commit_record kind seat seated step.answer) }
-{
-    let commit = commit_of(kind, seat, seated, step);
-    match step.effect {
-        Effect::CellSet(cell, amount) => Some(Record::Change {
-            number,
-            cell,
-            amount,
-        }),
-        _ => commit,
+impl Ready {
+    // The record of the step: of the change, where it sets a cell, and otherwise of the commit, where it commits.
+    pub(crate) fn record(self, seat: u32, number: u32) -> Option<Record>
+        ensures { result ≡ record_by self.step.effect number (commit_record self.kind seat self.seated self.step.answer) }
+    {
+        match self.step.effect {
+            Effect::CellSet(cell, amount) => Some(Record::Change {
+                number,
+                cell,
+                amount,
+            }),
+            _ => self.commit(seat),
+        }
     }
-}
 
-fn commit_of(kind: u32, seat: u32, seated: Seated, step: Step) -> Option<Record>
-    ensures { result ≡ commit_record kind seat seated step.answer }
-{
-    match step.answer {
-        Answer::Committed(number) => Some(Record::Commit {
-            number,
-            seat,
-            kind,
-            tag: seated.tag,
-            count: seated.made,
-        }),
-        _ => None,
+    fn commit(self, seat: u32) -> Option<Record>
+        ensures { result ≡ commit_record self.kind seat self.seated self.step.answer }
+    {
+        match self.step.answer {
+            Answer::Committed(number) => Some(Record::Commit {
+                number,
+                seat,
+                kind: self.kind,
+                tag: self.seated.tag,
+                count: self.seated.made,
+            }),
+            _ => None,
+        }
     }
 }
 

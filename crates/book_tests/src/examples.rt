@@ -243,7 +243,7 @@ fn example_6(rt: HostRuntime) -> Result<(), Fail> {
     Ok(())
 }
 
-// A field in DKK, and the amount or the number of its fault.
+// A field in DKK, and the amount or the number of its fault. The example tells the number, so that it is what is tested.
 const AMOUNTS: [(&str, Result<i64, u32>); 4] = [
     ("-12.50", Ok(-1250)),
     ("-0.00", Err(66)),

@@ -9,6 +9,7 @@ use std::alloc::Global;
 use std::process::Abort;
 use std::test::Fail;
 
+// Written out, and not taken from the program that is tested.
 const LIMIT: i64 = 1_000_000_000_000_000;
 
 const BEYOND: i64 = 1_000_000_000_000_001;
@@ -224,6 +225,7 @@ const OPENINGS: &[Opening] = &[
     },
 ];
 
+// Two books cannot be compared, so that of an answer the refusal alone is.
 fn answer(lists: &mut Shelf, helpers: u32, number: u32) -> Option<OpenRefusal> {
     let opened: Result<Book<Total>, OpenRefusal> = open_on(lists, 1, helpers, number);
     opened.err()

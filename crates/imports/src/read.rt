@@ -16,7 +16,8 @@ pub const TOP_CELL: u16 = 4095;
 
 const MOST_IN_LINE: usize = 80;
 
-// The code of the header that the text begins with.
+// The code of the header that the text begins with. A text of no bytes has no first line that could be at fault, so that this
+// and the next two ask for one byte; a type for such texts would be made at two calls and read there at once.
 pub(crate) fn read_header(text: &[u8]) -> Result<Code, LineFault>
     requires { 0 < length text.now }
     ensures { ReadsHeader text.now result }
@@ -118,6 +119,7 @@ fn read_cell(field: &[u8]) -> Result<u16, LineFault>
     ensures { ReadsCell field.now result }
 {
     match read_number(field) {
+        // By `as`, which is proved to lose nothing: `try_from` would want a refusal that cannot come.
         Some(n) if n <= u64::from(TOP_CELL) => Ok(n as u16),
         _ => Err(LineFault::Cell),
     }

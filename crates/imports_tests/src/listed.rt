@@ -46,9 +46,7 @@ fn listings_of_texts(rt: HostRuntime) -> Result<(), Fail> {
 fn postings_in_order(rt: HostRuntime) -> Result<(), Fail> {
     let heap = rt.alloc();
     let text = b"H\tDKK\nP\t3\t12.50\nT\t3\t0\t-2.50\n".to_vec(heap)?;
-    let Ok(import) = imports::check(text) else {
-        return Err(Fail::new("the text is refused"));
-    };
+    let import = imports::check(text).map_err(|fault| Fail::new(format_args!("{fault}")))?;
     let mut postings = import.postings();
     assert_eq!(rt;
         postings.next(),

@@ -8,7 +8,8 @@ pub enum Record {
         cell: u32,
         amount: i64,
     },
-    // A transaction commits, with so many changes recorded before it.
+    // A transaction commits, with so many changes recorded before it. Its kind is a number, since anyone may add a kind of body,
+    // and the line of a record has its number.
     Commit {
         number: u32,
         seat: u32,

@@ -26,6 +26,7 @@ impl BookingRefusal {
     }
 }
 
+// By hand, as the next two, since a `From` that a derive writes has no contract, and clauses name what `?` makes.
 impl From<OpenRefusal> for BookingRefusal {
     ghost from_gives = { λ refusal r. r ≡ Open refusal };
 

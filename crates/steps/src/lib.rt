@@ -1,4 +1,6 @@
-// The steps of seats, one function a phase. Each answers what the step does, and changes nothing itself.
+// The steps of seats, one function a phase. Each answers what the step does, and changes nothing itself. Each takes, as plain
+// values, what the machine's definition of its phase takes, so that its contract is one equation; a struct of those that go
+// together, as a number and a way, would be made by one caller and taken apart again at once.
 #![tactic(auto)]
 
 mod forms;
