@@ -15,7 +15,9 @@ fn reads(
     answer: Result<i64, AmountFault>,
     words: &str,
 ) -> Result<(), Fail> {
-    let code = Code::new(code.as_bytes()).ok_or(Fail::new(format_args!("no code: {words}")))?;
+    let code = Code::new(code.as_bytes()).ok_or_else(|| Fail::new(format_args!(
+        "no code: {words}"
+    )))?;
     assert_eq!(rt; read_amount(code, field), answer, "{words}");
     Ok(())
 }
