@@ -7,6 +7,10 @@ use Rattle.body.specs.Meaning.{Lawful, ReadTold, WriteTaken}
 use Rattle.body.specs.Plans.{Plan, read, write, end, Done, Follows, run_out, RunsAlone, carried_out}
 use Rattle.body.specs.Serial.{given, go}
 
+-- what runs alone as one account says also runs as an account that agrees with it
+pub runs_as : {B R : Type 0} (m : Ghosts B) (result : B → R) (b : B) (d e : List ℤ → Done R) (cs : List ℤ) → ((d cs).outcome ≡ (e cs).outcome) × ((d cs).result ≡ (e cs).result) → RunsAlone m result b d cs → RunsAlone m result b e cs
+runs_as m result b d e cs same runs = record { outcome = runs.outcome ∙ same.0; ends_with = runs.ends_with ∙ same.1 }
+
 module _ {B R : Type 0} (m : Ghosts B) (result : B → R) (law : Lawful m.asks m.told m.taken m.begin m.left m.reach m.len) where
   -- a telling that answers leaves fewer requests
   fewer_read : (b : B) (c : ℕ) (a : ℤ) → m.asks b ≡ Read c → m.left (m.told b a) < m.left b
@@ -48,9 +52,7 @@ module _ {B R : Type 0} (m : Ghosts B) (result : B → R) (law : Lawful m.asks m
   made p does reach len b starts follows reaches lasts same = record {
     starts = starts;
     follows = follows;
-    alone = λ cs room.
-        let runs = runs_alone p b cs (subst (Follows m result p) (sym starts) follows) in
-        record { outcome = runs.outcome ∙ (same cs room).0; ends_with = runs.ends_with ∙ (same cs room).1 };
+    alone = λ cs room. runs_as m result b (carried_out p) does cs (same cs room) (runs_alone p b cs (subst (Follows m result p) (sym starts) follows));
     reaches = reaches;
     lasts = lasts;
   }

@@ -6,7 +6,7 @@ ghost use Rattle.body.specs.Meaning.{Lawful};
 use super::request::Request;
 
 pub trait Body: Sized {
-    // The number of this kind of body.
+    // The number of this kind of body. It is no enum, since kinds are open: a crate above may add one.
     const KIND: u32;
 
     // The constant, as clauses name it.
@@ -52,7 +52,10 @@ pub trait Body: Sized {
         ensures { result ≡ len self.now };
 
     fn kind_of(&self) -> u32
-        ensures { result ≡ KIND };
+        ensures { result ≡ KIND }
+    {
+        Self::KIND
+    }
 
     ghost lawful: { Lawful asks told taken begin left reach len };
 }

@@ -50,8 +50,4 @@ impl<A: Body, B: Body> Body for Either<A, B> {
     fn length_of(&self) -> usize {
         for_both!(self, body => body.length_of())
     }
-
-    fn kind_of(&self) -> u32 {
-        Self::KIND
-    }
 }

@@ -60,10 +60,6 @@ impl Body for Import {
     fn length_of(&self) -> usize {
         self.checked.length() as usize
     }
-
-    fn kind_of(&self) -> u32 {
-        Self::KIND
-    }
 }
 
 impl Import {

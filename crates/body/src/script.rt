@@ -60,10 +60,6 @@ impl Body for Script {
     fn length_of(&self) -> usize {
         self.steps.len()
     }
-
-    fn kind_of(&self) -> u32 {
-        Self::KIND
-    }
 }
 
 impl ScriptStep {

@@ -12,7 +12,7 @@ pub enum ScriptStep {
 #[derive(Drop)]
 pub struct Script {
     pub(crate) steps: Vec<ScriptStep>,
-    // The highest cell named, plus 1, or 0.
+    // Every cell named lies below this: the highest one, plus 1, or 0 where none is.
     pub(crate) reach: u32,
     // How many steps are done.
     pub(crate) done: usize,

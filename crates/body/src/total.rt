@@ -63,10 +63,6 @@ impl Body for Total {
     fn length_of(&self) -> usize {
         usize::from(self.last.saturating_sub(self.first)) + 2
     }
-
-    fn kind_of(&self) -> u32 {
-        Self::KIND
-    }
 }
 
 impl Total {

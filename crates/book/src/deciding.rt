@@ -14,7 +14,7 @@ use logs::{cell_at, has, lookup, written_at};
 use steps::is_stale;
 
 impl Sight<'_> {
-    // The phase is kept in the book between calls, so that a match on it is plainer than a closure, which cannot be kept there.
+    // The phase is kept in the book between calls, so a match on it is plainer than a closure, which cannot be kept there.
     pub(crate) fn decide<B: Body>(&self, body: &B) -> Step
         requires { IsNarrow (B.Body.asks body.now) }
         ensures { result ≡ step_at B.Body (shared_in self.now) self.now.seat (work_in body.now self.now) self.now.seated.phase }
@@ -57,10 +57,10 @@ impl Sight<'_> {
         ensures { result ≡ there (length self.now.cells.now) (entry_of (work_in (tt {0}) self.now) self.now.seated.phase) }
     {
         let cell = match self.seated.phase {
-            Phase::Prevalidate { at, .. } => cell_at(self.reads, self.writes, at),
-            Phase::Validate { at } => cell_at(self.reads, self.writes, at),
-            Phase::Mark { at } => written_at(self.writes, at).cell,
-            Phase::Cell { at } => written_at(self.writes, at).cell,
+            Phase::Prevalidate { at, .. } | Phase::Validate { at } => {
+                cell_at(self.reads, self.writes, at)
+            }
+            Phase::Mark { at } | Phase::Cell { at } => written_at(self.writes, at).cell,
             _ => return true,
         };
         (cell as usize) < self.cells.len()

@@ -6,7 +6,7 @@ pub(crate) const MOST_MARKS: usize = 1024;
 pub(crate) const MOST_HELPERS: u32 = 8;
 
 // The seat of the master, and one for each helper.
-pub(crate) const SEATS: usize = 9;
+pub(crate) const SEATS: usize = MOST_HELPERS as usize + 1;
 
 // The entries of a helper's read log, and of its write log.
 pub(crate) const MOST_READS: usize = lane::MOST_READS as usize;

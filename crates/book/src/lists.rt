@@ -1,5 +1,5 @@
-// The lists that are lent to each call of a book. There is no heap, so a book owns none, and keeps beside them how much of the
-// logs and of the journal is used.
+// The lists that are lent to each call of a book. By a rule of the calls a book owns none of them, so it keeps beside them how much
+// of the logs and of the journal is used, and where in the long lists the logs of each helper lie.
 ghost use Rattle.std.specs.Prelude.{◌≡◌};
 ghost use Rattle.book.specs.Views.{sizes_now};
 

@@ -65,8 +65,8 @@ impl Terms {
                 paused: false,
                 queue: Queue::new(),
             },
-            // Nine of them by a repeat: tried, and the borrow checker covers none of what is not Copy. By `array::from_fn`: tried,
-            // and `returns` stayed open.
+            // Nine by name: the borrow checker covers no repeat of what is not `Copy`, and by `array::from_fn`, which was tried,
+            // `returns` stayed open.
             chairs: [
                 Chair::empty(),
                 Chair::empty(),

@@ -15,15 +15,6 @@ use super::sight::Sight;
 use body::Body;
 use lane::{Seated, StepRefusal};
 
-impl<B> Desk<B> {
-    // Whether the lists are as long as at open.
-    pub(crate) fn lent_whole(&self, lists: &Lists<'_>) -> bool
-        ensures { result ≡ same_sizes (world self.now lists.now) }
-    {
-        lists.sizes() == self.sizes
-    }
-}
-
 impl<B: Body> Book<B> {
     // What the seat is to do, or why it may not step.
     pub(crate) fn ready(&self, lists: &Lists<'_>, seat: u32) -> Result<Ready, StepRefusal>
@@ -60,6 +51,13 @@ impl<B: Body> Book<B> {
 }
 
 impl<B> Desk<B> {
+    // Whether the lists are as long as at open.
+    pub(crate) fn lent_whole(&self, lists: &Lists<'_>) -> bool
+        ensures { result ≡ same_sizes (world self.now lists.now) }
+    {
+        lists.sizes() == self.sizes
+    }
+
     // The transaction at a seat.
     pub(crate) fn seated_at(&self, seat: u32) -> Option<Seated>
         ensures { result ≡ slice_index_or (seats_of self.now.chairs) seat None }

@@ -5,6 +5,6 @@ use lane::{Seated, Step};
 pub(crate) struct Ready {
     pub seated: Seated,
     pub step: Step,
-    // The kind of its body.
+    // The kind of its body, a number as the trait has it.
     pub kind: u32,
 }

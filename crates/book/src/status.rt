@@ -12,6 +12,6 @@ pub struct Status {
     // The seats under way, with bit k for seat k, and how many they are.
     pub word: u32,
     pub count: u32,
-    // Whether no seat is under way.
+    // Whether no seat is under way, told beside their count so that all is of one moment.
     pub quiet: bool,
 }

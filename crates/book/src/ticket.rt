@@ -4,11 +4,12 @@ ghost use Rattle.std.specs.Prelude.{◌≡◌, false};
 pub struct Ticket {
     // The name of the book that is paused.
     pub(crate) book: u32,
-    // Whether it is still to be given to resume: a field and not a type with no Drop, of which no clause could say that pause
-    // gives one.
+    // Whether it is still to be given to resume: a field, since a ticket of a type with no Drop at all could not be let go once it
+    // is spent.
     pub(crate) owed: bool,
 }
 
+// By hand, since a derived one requires nothing.
 impl Drop for Ticket {
     fn drop(self)
         requires { self.owed ≡ false }

@@ -15,7 +15,7 @@ const LIMIT: i64 = 1_000_000_000_000_000;
 const BEYOND: i64 = 1_000_000_000_000_001;
 
 // An opening that is tried: how many cells, and the amount in each; how long the other lists are; the helpers, the number, and
-// the refusal.
+// the refusal. Its lengths stand one by one, so that a row tells in a line what differs from a good opening.
 #[derive(Clone, Copy)]
 struct Opening {
     cells: usize,

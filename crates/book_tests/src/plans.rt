@@ -82,18 +82,14 @@ pub enum Turn {
 impl Turn {
     fn seat(self) -> u32 {
         match self {
-            Turn::GoesOn(seat, _) => seat.0,
-            Turn::Waits(seat, _) => seat.0,
-            Turn::BreaksOff(seat) => seat.0,
-            Turn::GivesUp(seat) => seat.0,
-            Turn::Commits(seat, _) => seat.0,
+            Turn::GoesOn(seat, _) | Turn::Waits(seat, _) => seat.0,
+            Turn::BreaksOff(seat) | Turn::GivesUp(seat) | Turn::Commits(seat, _) => seat.0,
         }
     }
 
     fn times(self) -> u32 {
         match self {
-            Turn::GoesOn(_, times) => times.0,
-            Turn::Waits(_, times) => times.0,
+            Turn::GoesOn(_, times) | Turn::Waits(_, times) => times.0,
             _ => 1,
         }
     }

@@ -6,7 +6,6 @@ ghost use Rattle.imports.specs.Numbers.{import_fault_line, import_fault_number, 
 ghost use Rattle.imports.specs.Printed.{fault_text};
 
 use money::AmountFault;
-use std::error::Error;
 use std::fmt;
 
 #[derive(Clone, Copy, Debug, PartialEq, Eq)]
@@ -65,7 +64,7 @@ pub enum ImportFault {
 }
 
 impl ImportFault {
-    // The faulty line, or 0 where the fault is the size of the text.
+    // The faulty line, or 0 where the fault is the size of the text: a number and no Option, since it is what is printed.
     pub fn line(self) -> u32
         ensures { result ≡ import_fault_line self }
     {
@@ -103,5 +102,3 @@ impl fmt::Display for ImportFault {
         write!(f, "{line}\t{number}")
     }
 }
-
-impl Error for ImportFault {}

@@ -129,11 +129,7 @@ fn read_cell(field: &[u8]) -> Result<u16, LineFault>
 fn last_field(field: &[u8]) -> Option<&[u8]>
     ensures { LastField field.now result }
 {
-    if field.contains(&b'\t') {
-        None
-    } else {
-        Some(field)
-    }
+    (!field.contains(&b'\t')).then_some(field)
 }
 
 // The two sides of the first place where the byte stands.

@@ -5,7 +5,7 @@ use super::posting::Posting;
 pub struct Totals {
     // How many postings there are.
     pub count: u32,
-    // The highest cell that they name, plus 1, or 0.
+    // Every cell that they name lies below this: the highest one, plus 1, or 0 where none is named.
     pub reach: u32,
     // How many cells they read and write: 2 for each post, 4 for each transfer.
     pub length: u32,

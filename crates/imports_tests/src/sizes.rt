@@ -7,21 +7,15 @@ use std::test::Fail;
 // A header, then so many lines of 9 bytes and of 10.
 fn text_of(heap: Global, nines: u32, tens: u32) -> Result<Vec<u8>, AllocError> {
     let mut text = b"H\tDKK\n".to_vec(heap)?;
-    for _ in 0..nines {
-        text.extend_from_slice(b"P\t0\t0.00\n")?;
-    }
-    for _ in 0..tens {
-        text.extend_from_slice(b"P\t10\t0.00\n")?;
-    }
+    text.extend_from_slice("P\t0\t0.00\n".repeat(heap, nines as usize)?.as_bytes())?;
+    text.extend_from_slice("P\t10\t0.00\n".repeat(heap, tens as usize)?.as_bytes())?;
     Ok(text)
 }
 
 // A front, so many digits, and an end.
 fn padded(heap: Global, front: &str, digits: u32, end: &str) -> Result<Vec<u8>, AllocError> {
     let mut text = front.as_bytes().to_vec(heap)?;
-    for _ in 0..digits {
-        text.push(b'1')?;
-    }
+    text.extend_from_slice("1".repeat(heap, digits as usize)?.as_bytes())?;
     text.extend_from_slice(end.as_bytes())?;
     Ok(text)
 }

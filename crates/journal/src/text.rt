@@ -12,6 +12,7 @@ use std::fmt;
 pub(crate) const MOST_BYTES: usize = 57;
 
 impl Record {
+    // By pushes, since `write!` answers a `Result`, and making a text that fits cannot fail.
     pub(crate) fn text(self) -> ArrayString<MOST_BYTES>
         ensures { result.bytes ≡ line_of self }
     {

@@ -42,7 +42,7 @@ pub enum Phase {
     Leave,
 }
 
-// How a helper with writes comes to its commit.
+// How a helper with writes comes to its commit. A caller picks one by its number, so that it is no type parameter.
 #[derive(Clone, Copy)]
 pub enum Way {
     // Take the lane, then find all entries fresh.

@@ -1,4 +1,5 @@
-// Why a call is refused. A refused call changes nothing. Each refusal has a number of its own.
+// Why a call is refused. A refused call changes nothing. Each refusal has a number of its own; each enum tells it itself, since a
+// trait for it would repeat the cast in each impl.
 ghost use Rattle.std.specs.Prelude.{◌≡◌};
 ghost use Rattle.lane.specs.Numbers.{open_refusal_number, pause_refusal_number, seat_refusal_number, step_refusal_number};
 

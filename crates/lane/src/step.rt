@@ -13,7 +13,8 @@ pub struct Step {
     pub effect: Effect,
 }
 
-// What a step does to the logs of its seat.
+// What a step does to the logs of its seat. This and what it does to what the seats share are enums and no closures, since the
+// definitions of a step name them.
 #[derive(Clone, Copy)]
 pub enum LogChange {
     Same,

@@ -1,4 +1,4 @@
-// What a step tells the body of its seat.
+// What a step tells the body of its seat. Nothing is a case, and no option around the others: a match has one level.
 
 #[derive(Clone, Copy)]
 pub enum Told {

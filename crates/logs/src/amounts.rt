@@ -6,9 +6,6 @@ use super::entry::Entry;
 use super::log::find;
 use lane::Written;
 
-// What stands behind the end of a write log, which no step in a run meets.
-const NO_ENTRY: Written = Written { cell: 0, amount: 0 };
-
 // Whether a log has the cell.
 pub fn has<E: Entry>(log: &[E], cell: u32) -> bool
     ensures { result ≡ holds E.Entry.cell cell log.now }
@@ -25,11 +22,11 @@ pub fn lookup(log: &[Written], cell: u32) -> Option<i64>
         .map(|entry| entry.amount)
 }
 
-// The entry of a write log at the place.
+// The entry of a write log at the place. Behind its end, which no step in a run meets, an entry of 0 for cell 0.
 pub fn written_at(log: &[Written], at: u32) -> Written
     ensures { result ≡ slice_index_or log.now at no_entry }
 {
-    log.get(at as usize).copied().unwrap_or(NO_ENTRY)
+    log.get(at as usize).copied().unwrap_or_default()
 }
 
 // The cell at the place in the order of validation: the read log, and then the write log.

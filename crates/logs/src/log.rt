@@ -13,7 +13,7 @@ pub fn find<E: Entry>(log: &[E], cell: u32) -> Option<usize>
 }
 
 // Enters into the log of so many entries at the front of the stretch: in the place of its cell's entry, or behind the last.
-// Answers whether it is a new one.
+// Answers whether it is a new one, as the insert of a set does.
 pub fn enter<E: Entry>(stretch: &mut [E], used: usize, entry: E) -> bool
     ensures laid { stretch.new ≡ laid E.Entry.cell entry (take used stretch.old) stretch.old }
     ensures grown { result ≡ not (holds E.Entry.cell (E.Entry.cell entry) (take used stretch.old)) }

@@ -18,6 +18,7 @@ const MOST_STEPS: u32 = 2_002;
 pub(crate) fn book_import(lists: &mut Lists<'_>, import: Import) -> Result<usize, BookingRefusal> {
     let mut book = Book::open(0, lists, 0, 0)?;
     book.seat(MASTER, MASTERS_WAY, TAG, import)?;
+    // Bounded, since a loop has to be proved to end.
     for _ in 0..MOST_STEPS {
         if let Answer::Committed(_) = book.step(lists, MASTER)? {
             break;

@@ -52,7 +52,7 @@ impl From<StepRefusal> for BookingRefusal {
     }
 }
 
-// No line of the text is at fault, so that 0 stands for it; and the number, behind a tab.
+// 0 in place of a line, since none of the text is at fault; and the number, behind a tab.
 impl fmt::Display for BookingRefusal {
     ghost output = { λ refusal. Some (booking_refusal_text refusal) };
 

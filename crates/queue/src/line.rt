@@ -1,7 +1,7 @@
 // A queue of at most eight seats: what it holds.
 use arrayvec::ArrayVec;
 
-// The most seats that can be in the queue.
+// The most seats that can be in the queue: as many as a book may have helpers.
 const ROOM: usize = 8;
 
 #[derive(Clone, Drop)]
