@@ -17,6 +17,7 @@ pub struct Import {
     ghost placed: { at ≡ place checked taken },
 }
 
+// Kept between two calls, and named by the definitions, so that it is an enum and no closure.
 #[derive(Clone, Copy)]
 pub enum ImportStep {
     // To read the first cell of this posting.

@@ -8,6 +8,7 @@ pub struct Total {
     pub(crate) step: TotalStep,
 }
 
+// Kept between two calls, and named by the definitions, so that it is an enum and no closure.
 #[derive(Clone, Copy)]
 pub enum TotalStep {
     // The cell to read next, and the sum of those before it.

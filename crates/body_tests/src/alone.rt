@@ -1,4 +1,5 @@
 // What the tables share: a body is run alone on a list of cells, and what it was handed and the cells are compared.
+// Handle and heap go side by side: a helper may not take the runtime, and a bound for both would make its vectors generic.
 use body::{Body, Request};
 use std::alloc::{AllocError, Global};
 use std::process::Abort;

@@ -11,6 +11,7 @@ pub(crate) struct Chair<B> {
     pub body: Option<B>,
 }
 
+// No derived `Default`: it would ask for one of the body.
 impl<B> Chair<B> {
     pub(crate) fn empty() -> Chair<B>
         ensures { result ≡ record { seated = None; body = None } }

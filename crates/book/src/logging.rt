@@ -15,7 +15,7 @@ pub(crate) struct Used {
     pub writes: u32,
 }
 
-// The seat's logs after a step.
+// The seat's logs after a step. The logs of all helpers lie in one lent list each, so that a helper's is found by its place.
 pub(crate) fn log(
     reads: &mut [u32],
     writes: &mut [Written],

@@ -1,4 +1,5 @@
 // Plans: totals are seated in a book of four cells and two marks, and stepped in some order of turns.
+// Handle and heap go side by side: a helper may not take the runtime, and a bound for both would make its vectors generic.
 use super::shelf::{Lengths, Shelf, holds, lay, open_on, sits, step_on};
 use body::{Body, Total};
 use book::Book;

@@ -30,6 +30,7 @@ fn survey(text: &[u8]) -> Result<Survey, ImportFault>
     let code = read_header(text).map_err(|fault| FaultyLine { line: 1, fault })?;
     let mut totals = Totals::default();
     let mut rest = &text[HEADER_BYTES..];
+    // Not by the cursor of postings, which stops at a line that it cannot read and tells no fault.
     while !rest.is_empty() {
         let line = totals.count + 2;
         let (posting, used) = read_line(code, rest).map_err(|fault| FaultyLine { line, fault })?;

@@ -77,6 +77,7 @@ impl ImportFault {
     pub fn number(self) -> u32
         ensures { result ≡ import_fault_number self }
     {
+        // A match, since the number is that of the fault inside.
         match self {
             ImportFault::Size => 60,
             ImportFault::Line(faulty) => faulty.fault.number(),

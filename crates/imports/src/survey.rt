@@ -1,4 +1,4 @@
-// What the check finds in a text that it admits.
+// What the check finds in a text that it admits: the parts of a checked import without its text, which stays with the caller.
 use super::totals::Totals;
 use money::Code;
 

@@ -1,4 +1,5 @@
 // What the tables share: a text is checked, and its fault or its postings are compared.
+// Handle and heap go side by side: a helper may not take the runtime, and a bound for both would make its vectors generic.
 use imports::{Totals, check};
 use std::alloc::Global;
 use std::process::Abort;

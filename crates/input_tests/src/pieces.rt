@@ -1,3 +1,4 @@
+// Handle and heap go side by side: a helper may not take the runtime, and a bound for both would make its vectors generic.
 use input::read_at_most;
 use std::alloc::Global;
 use std::io;

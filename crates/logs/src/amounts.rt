@@ -33,6 +33,7 @@ pub fn written_at(log: &[Written], at: u32) -> Written
 pub fn cell_at(reads: &[u32], writes: &[Written], at: u32) -> u32
     ensures { result ≡ slice_index (reads.now ++ cells_of writes.now) at }
 {
+    // By `as`, since the bound is proved; `try_from` would want an answer that cannot come.
     match reads.get(at as usize) {
         Some(cell) => *cell,
         None => written_at(writes, at - reads.len() as u32).cell,

@@ -18,6 +18,7 @@ impl BookingRefusal {
     pub(crate) fn number(self) -> u32
         ensures { result ≡ booking_refusal_number self }
     {
+        // A match, since the number is that of the refusal inside.
         match self {
             BookingRefusal::Open(refusal) => refusal.number(),
             BookingRefusal::Seat(refusal) => refusal.number(),

@@ -1,4 +1,5 @@
 // What is posted for a text: the lines of the journal, or the line of a refusal.
+// Handle and heap go side by side: a helper may not take the runtime, and a bound for both would make its vectors generic.
 use posts::post;
 use std::alloc::Global;
 use std::process::Abort;

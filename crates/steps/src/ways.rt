@@ -5,7 +5,7 @@ ghost use Rattle.lane.specs.Phases.{after_release, after_swap, cell_step, leave_
 use super::forms::{IDLING, breaking_off, committing, doing, going, staying};
 use lane::{Answer, Effect, Phase, Step, Way};
 
-// The first step of each way.
+// The first step of each way. This and two others depend on the way alone; closures for the ways would be no plainer.
 pub(crate) fn first_of_way(number: u32, way: Way) -> Step
     ensures { result ≡ way_step number way }
 {
