@@ -69,6 +69,7 @@ impl Cells {
         tellings: Tellings,
         name: &str,
     ) -> Result<(), Fail> {
+        // As many turns as asked for: nothing is looked up by their count.
         for _ in 0..turns {
             let asked = body.request();
             // Being asked changes nothing.
@@ -130,6 +131,7 @@ pub(crate) fn does<B: Body>(
     for tellings in [Tellings::Right, Tellings::Wrong] {
         runs(rt, heap, body, tellings, run, name)?;
     }
+    // Restarted after each number of turns: nothing is looked up by it.
     for turns in 0..body.length_of() {
         body.restart();
         Cells::new(heap, run.cells)?.answer_all(rt, body, turns, Tellings::Right, name)?;

@@ -8,6 +8,7 @@ use std::test::Fail;
 // An import of so many transfers ends within its length, and books every line.
 fn run(rt: &impl Abort, heap: Global, lines: usize) -> Result<(), Fail> {
     let mut text = b"H\tDKK\n".to_vec(heap)?;
+    // Line by line, and not by `repeat`, so that the counts in docs/CHECK.md stay comparable.
     for _ in 0..lines {
         text.extend_from_slice(b"T\t3\t7\t12.34\n")?;
     }
