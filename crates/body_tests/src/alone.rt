@@ -140,7 +140,7 @@ pub(crate) fn does<B: Body>(
     Ok(())
 }
 
-// What a body tells of itself.
+// What a body tells of itself. Its kind is a number, as the trait has it.
 #[derive(Clone, Copy, Debug, PartialEq)]
 pub struct Measures {
     pub reach: usize,

@@ -34,6 +34,7 @@ pub(crate) fn log(
         reads: seated.reads,
         writes: seated.writes,
     };
+    // What is done to a log is a value that the definitions of a step name, so that it is a match and no closure.
     match change {
         LogChange::Same => before,
         LogChange::Emptied => Used {

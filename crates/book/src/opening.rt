@@ -83,7 +83,7 @@ impl Terms {
     }
 }
 
-// Whether there are too many helpers, or a log list is too short for them.
+// Whether there are too many helpers, or a log list is too short for them: the logs of all helpers lie in one lent list each.
 fn too_short(reads: usize, writes: usize, helpers: u32) -> bool
     ensures { result ≡ (nat_lt 8 helpers || (nat_lt reads (64 * helpers) || nat_lt writes (32 * helpers))) }
 {

@@ -29,6 +29,7 @@ impl<B: Body> Book<B> {
         if !desk.lent_whole(lists) {
             return Err(StepRefusal::Lists);
         }
+        // The logs of all helpers lie in one lent list each.
         let helper = seat.saturating_sub(1) as usize;
         let sight = Sight {
             common: &desk.common,

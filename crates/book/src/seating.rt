@@ -13,7 +13,7 @@ use body::Body;
 use lane::{Phase, SeatRefusal, Seated, Way};
 
 impl<B: Body> Book<B> {
-    // Refuses with the first condition that fails, and tells the way otherwise.
+    // Refuses with the first condition that fails, and tells the way otherwise. The way is still the number that `seat` was asked with.
     pub(crate) fn admit(&self, seat: u32, way_number: u32, body: &B) -> Result<Way, SeatRefusal>
         ensures refused { result_err result ≡ seat_refusal B.Body (bare self.now.desk) seat way_number body.now }
         ensures admitted { IfOk result (λ way. way ≡ taken_way B.Body (way_of seat way_number)) }

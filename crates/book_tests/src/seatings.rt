@@ -22,7 +22,8 @@ fn same<B: Body + Drop>(rt: &impl Abort, back: B, given: B) {
     );
 }
 
-// A body is seated, or it is refused so and comes back as it was given: one that is the same is given beside it.
+// A body is seated, or it is refused so and comes back as it was given: one that is the same is given beside it. The way is a number,
+// as `seat` takes it.
 fn tries<B: Body + Drop>(
     rt: &impl Abort,
     book: &mut Book<B>,

@@ -81,6 +81,7 @@ pub(crate) fn step_on<B: Body + Drop>(
     book.step(&mut lists, seat)
 }
 
+// The way is a number, as `seat` takes it.
 pub(crate) fn sits<B: Body + Drop>(
     book: &mut Book<B>,
     seat: u32,
