@@ -1,9 +1,11 @@
 // Reads an input to its end and keeps no more of it than is wanted, however long it is.
 #![tactic(auto)]
 
-ghost use Rattle.std.specs.Prelude.{◌≡◌, ◌≤◌, IfOk, IfSome, OnOk, take, vec_len};
+ghost use Rattle.std.specs.Prelude.{◌≡◌, ◌<◌, ◌≤◌, IfOk, IfSome, OnOk, length, take, vec_len};
 ghost use Rattle.std.specs.Io.KnownBytes.{IsAtEnd};
+ghost use Rattle.imports.specs.Texts.{most_bytes};
 
+use imports::MOST_BYTES;
 use std::alloc::Global;
 use std::io;
 use std::io::Read;
@@ -20,4 +22,14 @@ pub fn read_at_most<R: Read>(heap: Global, input: &mut R, most: usize) -> io::Re
     // Of a reader whose bytes are not known, no contract says that no more than these are kept.
     text.truncate(most);
     Ok(text)
+}
+
+// The text of an import, whole where it is no longer than a text may be. Of a longer one a byte more is kept, so that it is seen to be
+// too long.
+pub fn read_text<R: Read>(heap: Global, input: &mut R) -> io::Result<Vec<u8>>
+    ensures whole { IfOk result (λ text. IfSome (R.remaining input.old) (λ bytes. length bytes ≤ most_bytes → text.items ≡ bytes)) }
+    ensures longer { IfOk result (λ text. IfSome (R.remaining input.old) (λ bytes. most_bytes < length bytes → most_bytes < vec_len text)) }
+    ensures end { OnOk result (IsAtEnd (R.remaining input.new)) }
+{
+    read_at_most(heap, input, MOST_BYTES + 1)
 }

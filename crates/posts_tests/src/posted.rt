@@ -46,3 +46,14 @@ fn too_long(rt: HostRuntime) -> Result<(), Fail> {
     let text = format!(in heap; "H\tDKK\n{posts}")?;
     posts_as(&rt, heap, text.as_str(), "X\t0\t15\n")
 }
+
+// 499 posts have a length of 998, and are booked whole: no longer import of posts is.
+#[test]
+fn longest(rt: HostRuntime) -> Result<(), Fail> {
+    let heap = rt.alloc();
+    let posts = "P\t0\t0.00\n".repeat(heap, 499)?;
+    let changes = "W\t1\t0\t0\n".repeat(heap, 499)?;
+    let text = format!(in heap; "H\tDKK\n{posts}")?;
+    let out = format!(in heap; "{changes}C\t1\t0\t1\t7\t499\n")?;
+    posts_as(&rt, heap, text.as_str(), out.as_str())
+}
