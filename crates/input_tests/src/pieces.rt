@@ -1,5 +1,5 @@
 // Handle and heap go side by side: a helper may not take the runtime, and a bound for both would make its vectors generic.
-use input::read_at_most;
+use input::{read_at_most, read_text};
 use std::alloc::Global;
 use std::io;
 use std::io::Read;
@@ -59,6 +59,33 @@ fn sizes(rt: HostRuntime) -> Result<(), Fail> {
                 keeps(&rt, heap, size, at_once, most)?;
             }
         }
+    }
+    Ok(())
+}
+
+// A text is kept whole, and of one that is too long a byte more than a text may have.
+#[test]
+fn texts(rt: HostRuntime) -> Result<(), Fail> {
+    let heap = rt.alloc();
+    for (size, kept) in [
+        (0, 0),
+        (1, 1),
+        (32_768, 32_768),
+        (32_769, 32_769),
+        (40_000, 32_769),
+    ] {
+        let mut input = Pieces {
+            left: size,
+            at_once: 5000,
+            next: 0,
+        };
+        let expected: Vec<u8> = (0..kept).map(|i| (i % 251) as u8).collect(heap)?;
+        let text = read_text(heap, &mut input)?;
+        assert!(rt;
+            text.as_slice() == expected.as_slice(),
+            "what is kept of a text of {size}"
+        );
+        assert_eq!(rt; input.left, 0, "what is not read");
     }
     Ok(())
 }
