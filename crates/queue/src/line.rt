@@ -1,10 +1,11 @@
 // A queue of at most eight seats: what it holds.
-use arrayvec::ArrayVec;
+ghost use Rattle.std.specs.Prelude.{◌≤◌};
 
-// The most seats that can be in the queue: as many as a book may have helpers.
-const ROOM: usize = 8;
-
-#[derive(Clone, Drop)]
+// An array with its length, and no vector of fixed capacity: no vector is `Copy`, which callers of the queue may use, and no clause
+// says of one that it holds eight at most.
+#[derive(Clone, Copy)]
 pub struct Queue {
-    pub(crate) seats: ArrayVec<u32, ROOM>,
+    pub(crate) seats: [u32; 8],
+    pub(crate) len: usize,
+    ghost within: { len ≤ 8 },
 }
