@@ -10,3 +10,4 @@ mod text;
 pub use lines::line;
 pub use record::Record;
 pub use refusal::LineRefusal;
+pub use text::MOST_BYTES;

@@ -1,7 +1,7 @@
 // The text of a record: its line, with the line's end.
-ghost use Rattle.std.specs.Prelude.{◌≡◌, ◌+◌, ◌≤◌, ◌∷◌, ◌++◌, Some};
+ghost use Rattle.std.specs.Prelude.{◌≡◌, ◌+◌, ◌≤◌, ◌∷◌, ◌++◌, Some, decimal};
 ghost use Rattle.arrayvec.specs.ArrayString.{array_string_len};
-ghost use Rattle.journal.specs.Lines.{line_of};
+ghost use Rattle.journal.specs.Lines.{Distinct, line_of};
 
 use super::record::Record;
 use arrayvec::ArrayString;
@@ -9,12 +9,14 @@ use itoa::{Buffer, Integer};
 use std::fmt;
 
 // The longest line is that of a commit: a letter, five tabs with a number of ten digits behind each, and the end of the line.
-pub(crate) const MOST_BYTES: usize = 57;
+pub const MOST_BYTES: usize = 57;
 
 impl Record {
-    // By pushes, since `write!` answers a `Result`, and making a text that fits cannot fail.
-    pub(crate) fn text(self) -> ArrayString<MOST_BYTES>
-        ensures { result.bytes ≡ line_of self }
+    // The line of the record, with its end. By pushes, since `write!` answers a `Result`, and making a text that fits cannot fail.
+    #[tactic(auto, using(crate::proofs::Distinct::distinct))]
+    pub fn text(self) -> ArrayString<MOST_BYTES>
+        ensures line { result.bytes ≡ line_of self }
+        ensures distinct { Distinct }
     {
         let mut text = ArrayString::new();
         match self {
@@ -24,8 +26,8 @@ impl Record {
                 amount,
             } => {
                 text.push('W');
-                push_field(&mut text, number);
-                push_field(&mut text, cell);
+                push_number(&mut text, number);
+                push_number(&mut text, cell);
                 push_field(&mut text, amount);
             }
             Record::Commit {
@@ -36,15 +38,29 @@ impl Record {
                 count,
             } => {
                 text.push('C');
-                push_field(&mut text, number);
-                push_field(&mut text, seat);
-                push_field(&mut text, kind);
-                push_field(&mut text, tag);
-                push_field(&mut text, count);
+                push_number(&mut text, number);
+                push_number(&mut text, seat);
+                push_number(&mut text, kind);
+                push_number(&mut text, tag);
+                push_number(&mut text, count);
             }
         }
         text.push('\n');
         text
+    }
+}
+
+// A tab and a number of 32 bits. Most have one digit, which needs no buffer.
+fn push_number(text: &mut ArrayString<MOST_BYTES>, n: u32)
+    requires { array_string_len text.old + 11 ≤ MOST_BYTES }
+    ensures bytes { text.new.bytes ≡ text.old.bytes ++ 9 ∷ decimal n }
+    ensures len { array_string_len text.new ≤ array_string_len text.old + 11 }
+{
+    if n < 10 {
+        text.push('\t');
+        text.push(char::from(b'0' + n as u8));
+    } else {
+        push_field(text, n);
     }
 }
 

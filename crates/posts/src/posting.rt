@@ -3,7 +3,7 @@ ghost use Rattle.std.specs.Prelude.{IfOk, string_bytes};
 ghost use Rattle.posts.specs.Posts.{Posts};
 
 use super::booking::book_import;
-use super::printing::print_lines;
+use super::printing::{print_lines, print_refusal};
 use body::Import;
 use book::Lists;
 use imports::check;
@@ -31,7 +31,7 @@ pub fn post(heap: Global, text: Vec<u8>) -> Result<String, AllocError>
 {
     match check(text) {
         Ok(checked) => post_import(heap, Import::new(checked)),
-        Err(fault) => format!(in heap; "X\t{fault}\n"),
+        Err(fault) => print_refusal(heap, &fault),
     }
 }
 
@@ -51,6 +51,6 @@ fn post_import(heap: Global, import: Import) -> Result<String, AllocError> {
     };
     match book_import(&mut lists, import) {
         Ok(used) => print_lines(heap, &journal, used),
-        Err(refusal) => format!(in heap; "X\t{refusal}\n"),
+        Err(refusal) => print_refusal(heap, &refusal),
     }
 }
