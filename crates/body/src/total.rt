@@ -29,6 +29,7 @@ impl Body for Total {
 
     ghost lawful = { total_lawful };
 
+    #[inline(always)]
     fn request(&self) -> Request {
         match self.kept_step() {
             TotalStep::Read { at, .. } => Request::Read(usize::from(at)),
@@ -67,6 +68,7 @@ impl Body for Total {
 
 impl Total {
     // The step, where it keeps the laws; otherwise the end.
+    #[inline(always)]
     fn kept_step(&self) -> TotalStep
         ensures { result ≡ kept_step self.now.last self.now.step }
     {

@@ -15,6 +15,7 @@ use body::Body;
 use lane::{Seated, Told};
 
 impl<B: Body> Desk<B> {
+    #[inline(always)]
     pub(crate) fn act(&mut self, lists: &mut Lists<'_>, seat: u32, ready: Ready)
         requires { CanAct B.Body (world self.old lists.old) seat ready }
         ensures { (b : B) → slice_index_or (bodies_of self.old.chairs) seat None ≡ Some b → world self.new lists.new ≡ step_world B.Body (world self.old lists.old) seat ready.seated b ready.step }

@@ -9,6 +9,7 @@ use super::common::Common;
 use lane::Effect;
 
 // The word and the queue. What the machine's definitions promise of a step names its effect, which a closure has no name for.
+#[inline(always)]
 pub(crate) fn change(common: &mut Common, seat: u32, effect: Effect)
     requires small { common.old.number + 1 < 2 ^ 32 }
     requires lowers { effect ≡ NumberLowered → 0 < common.old.number }

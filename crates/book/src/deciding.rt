@@ -15,6 +15,7 @@ use steps::is_stale;
 
 impl Sight<'_> {
     // The phase is kept in the book between calls, so a match on it is plainer than a closure, which cannot be kept there.
+    #[inline(always)]
     pub(crate) fn decide<B: Body>(&self, body: &B) -> Step
         requires { IsNarrow (B.Body.asks body.now) }
         ensures { result ≡ step_at B.Body (shared_in self.now) self.now.seat (work_in body.now self.now) self.now.seated.phase }
@@ -53,6 +54,7 @@ impl Sight<'_> {
     }
 
     // Whether the entry of the logs that the step works on, if it works on one, is of a cell that there is.
+    #[inline(always)]
     pub(crate) fn entry_there(&self) -> bool
         ensures { result ≡ there (length self.now.cells.now) (entry_of (work_in (tt {0}) self.now) self.now.seated.phase) }
     {
@@ -68,6 +70,7 @@ impl Sight<'_> {
 
     // What the master's body asks for. Its cell fits 32 bits; a type of narrow requests would be `Request` written again. `as` is
     // proved to lose nothing here, where `try_from` would want a refusal that cannot come.
+    #[inline(always)]
     fn master(&self, request: Request) -> Step
         requires { IsNarrow request }
         ensures { result ≡ master_run_step self.now.common.now.number self.now.cells.now request }
@@ -80,6 +83,7 @@ impl Sight<'_> {
     }
 
     // What a helper's body asks for.
+    #[inline(always)]
     fn run(&self, request: Request) -> Step
         requires { IsNarrow request }
         ensures { result ≡ run_step (shared_in self.now) (work_in (tt {0}) self.now) request }
@@ -106,6 +110,7 @@ impl Sight<'_> {
     }
 
     // Sets the cell of an entry of the write log.
+    #[inline(always)]
     fn emit(&self, at: u32) -> Step
         ensures { let entry = slice_index_or self.now.writes.now at no_entry in result ≡ cell_step entry.cell entry.amount (length self.now.writes.now) at }
     {
@@ -114,6 +119,7 @@ impl Sight<'_> {
     }
 
     // Whether the mark of an entry of the logs is stale.
+    #[inline(always)]
     fn entry_is_stale(&self, at: u32) -> bool
         ensures { result ≡ stale_in self.now.marks.now self.now.seated.start (slice_index (self.now.reads.now ++ cells_of self.now.writes.now) at) }
     {
@@ -125,6 +131,7 @@ impl Sight<'_> {
     }
 
     // How many entries both logs have.
+    #[inline(always)]
     fn entries(&self) -> u32
         ensures { result ≡ length (self.now.reads.now ++ cells_of self.now.writes.now) }
     {

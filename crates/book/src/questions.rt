@@ -70,8 +70,11 @@ fn seat_word<B>(chairs: &[Chair<B>]) -> u32
 fn bit(seat: Option<Seated>) -> u32
     ensures { result ≡ seat_bit seat }
 {
-    match seat.map(|seated| seated.phase) {
-        None | Some(Phase::Reserve | Phase::Begin) => 0,
-        Some(_) => 1,
+    let Some(seated) = seat else {
+        return 0;
+    };
+    match seated.phase {
+        Phase::Reserve | Phase::Begin => 0,
+        _ => 1,
     }
 }

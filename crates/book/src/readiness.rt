@@ -16,7 +16,10 @@ use body::Body;
 use lane::{Seated, StepRefusal};
 
 impl<B: Body> Book<B> {
-    // What the seat is to do, or why it may not step.
+    // What the seat is to do, or why it may not step. This, `Desk::act` and what decides are inlined into the step, as is `request` of a
+    // total: with calls between them what they hand on goes through memory, and a program with books of several kinds of body took
+    // 1.4 to 1.7 times as long for a step.
+    #[inline(always)]
     pub(crate) fn ready(&self, lists: &Lists<'_>, seat: u32) -> Result<Ready, StepRefusal>
         ensures { result ≡ ready_of B.Body (book_world self.now lists.now) seat }
     {
