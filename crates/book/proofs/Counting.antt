@@ -9,7 +9,7 @@ use lib.Count.{ones, ones_in, ones_step}
 use Rattle.lane.specs.declared.seated.Seated.{Seated}
 use Rattle.book.specs.Questions.{in_hand, seat_bit, seat_word, seat_count}
 
-bit_one : (s : Option Seated) → seat_bit s ≤ 1
+pub bit_one : (s : Option Seated) → seat_bit s ≤ 1
 bit_one None = omega arith
 bit_one (Some s) = by (in_hand s.phase)
   where

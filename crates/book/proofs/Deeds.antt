@@ -29,7 +29,7 @@ use Rattle.book.specs.declared.ready.Ready.{Ready}
 use Rattle.book.specs.Views.{ReadsFit, WritesFit, ready_of, ready_by, CanAct}
 
 -- What a ready seat is.
-record IsReady {B : Type 0} (m : Ghosts B) (w : World B) (k : ℕ) (r : Ready) : Type 0 where
+pub record IsReady {B : Type 0} (m : Ghosts B) (w : World B) (k : ℕ) (r : Ready) : Type 0 where
   pub seat : k ≤ w.helpers
   pub seated : get_or w.seats k None ≡ Some r.seated
   pub body : B
@@ -39,7 +39,7 @@ record IsReady {B : Type 0} (m : Ghosts B) (w : World B) (k : ℕ) (r : Ready) :
   pub kind : r.kind ≡ m.KIND
 
 module _ {B : Type 0} (m : Ghosts B) (w : World B) (k : ℕ) where
-  is_ready : (r : Ready) → Ok r ≡ ready_of m w k → IsReady m w k r
+  pub is_ready : (r : Ready) → Ok r ≡ ready_of m w k → IsReady m w k r
   is_ready r e = by (ltb w.helpers k) refl e
     where
       inner : k ≤ w.helpers → (x : Option Seated) → get_or w.seats k None ≡ x → (y : Option B) → get_or w.bodies k None ≡ y → Ok r ≡ ready_by m w k x y → IsReady m w k r
@@ -58,7 +58,7 @@ module _ {B : Type 0} (m : Ghosts B) (w : World B) (k : ℕ) where
       by false l h = inner (ltb-false w.helpers k l) (get_or w.seats k None) refl (get_or w.bodies k None) refl h
 
   -- What the call answers and leaves then.
-  ready_reply : (r : Ready) (i : IsReady m w k r) → Ok r.step.answer ≡ step_reply m w k
+  pub ready_reply : (r : Ready) (i : IsReady m w k r) → Ok r.step.answer ≡ step_reply m w k
   ready_reply r i =
       ap {B = Result Answer StepRefusal} (λ (z : Step). Ok z.answer) i.step
       ∙ sym (rw (seat_there, i.seated, i.held, i.can))
@@ -66,7 +66,7 @@ module _ {B : Type 0} (m : Ghosts B) (w : World B) (k : ℕ) where
       seat_there : ltb w.helpers k ≡ false
       seat_there = le-ltb w.helpers k i.seat
 
-  ready_world : (r : Ready) (i : IsReady m w k r) → step_world m w k r.seated i.body r.step ≡ (step_call m w k).world
+  pub ready_world : (r : Ready) (i : IsReady m w k r) → step_world m w k r.seated i.body r.step ≡ (step_call m w k).world
   ready_world r i =
       ap (λ z. step_world m w k r.seated i.body z) i.step
       ∙ sym (rw (seat_there, i.seated, i.held, i.can))
@@ -161,13 +161,13 @@ module _ {B : Type 0} (m : Ghosts B) (w : World B) (i : Sane w) (k : ℕ) (r : R
   inside : k < length w.seats
   inside = omega (arith, i.all_seated, i.sized.few, y.seat)
 
-  lowers_some : z.effect ≡ NumberLowered → 0 < w.shared.core.number
+  pub lowers_some : z.effect ≡ NumberLowered → 0 < w.shared.core.number
   lowers_some e =
       let a : lowers s.phase ≡ 1 = subst (λ x. Lowering x (lowers s.phase)) e steady_now.lowering in
       let b : lowers_of (get_or w.seats k None) ≡ lowers s.phase = ap (λ x. lowers_of x) y.seated in
       omega (arith, total_at lowers_of w.seats k None inside, i.above)
 
-  joins_room : z.effect ≡ QueueJoined → length w.shared.queue < 8
+  pub joins_room : z.effect ≡ QueueJoined → length w.shared.queue < 8
   joins_room e =
       let q : (joined s.way s.phase ≡ 0) × (of_next (joined s.way) z.next ≡ 1) = subst (λ x. Queues s.way s.phase x z.next) e steady_now.queue in
       let a : joined_of (get_or w.seats k None) ≡ 0 = ap (λ x. joined_of x) y.seated ∙ q.0 in
@@ -197,7 +197,7 @@ module _ {B : Type 0} (m : Ghosts B) (w : World B) (i : Sane w) (k : ℕ) (r : R
   few : k ≤ 8
   few = omega (arith, i.sized.few, y.seat)
 
-  reads_fit : ReadsFit z.log k s w.reads
+  pub reads_fit : ReadsFit z.log k s w.reads
   reads_fit = by z.log steady_now.few_reads steady_now.plain
     where
       by : (c : LogChange) → length (reads_after c (read_log w k s)) ≤ most_reads → (masters s.phase ≡ true → Plain c) → ReadsFit c k s w.reads
@@ -208,7 +208,7 @@ module _ {B : Type 0} (m : Ghosts B) (w : World B) (i : Sane w) (k : ℕ) (r : R
           (k≥1, few, stretch_fits 64 k w.helpers 64 (length w.reads) y.seat (λ q. absurd (omega arith)) (omega arith) (omega (arith, lent.reads, i.sized.long_reads)), fair.few_reads, noted_within c (read_log w k s) 64 (rw (length_reads w i lent k s y.seat fair) fair.few_reads) h)
       by (Entered c v) h p = tt
 
-  writes_fit : WritesFit z.log k s w.writes
+  pub writes_fit : WritesFit z.log k s w.writes
   writes_fit = by z.log steady_now.few_writes steady_now.plain
     where
       by : (c : LogChange) → length (writes_after c (write_log w k s)) ≤ most_writes → (masters s.phase ≡ true → Plain c) → WritesFit c k s w.writes
@@ -219,7 +219,7 @@ module _ {B : Type 0} (m : Ghosts B) (w : World B) (i : Sane w) (k : ℕ) (r : R
           let k≥1 = not_master (Entered c v) (λ x. x) p in
           (k≥1, few, stretch_fits 32 k w.helpers 32 (length w.writes) y.seat (λ q. absurd (omega arith)) (omega arith) (omega (arith, lent.writes, i.sized.long_writes)), fair.few_writes, entered_within c v (write_log w k s) 32 (rw (length_writes w i lent k s y.seat fair) fair.few_writes) h)
 
-  can_act : CanAct m w k r
+  pub can_act : CanAct m w k r
   can_act = record {
     kind_is = y.kind;
     seat = few;

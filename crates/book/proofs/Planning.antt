@@ -56,7 +56,7 @@ module _ {B : Type 0} (m : Ghosts B) (d : Desk B) (l : Lists) (k : ℕ) (s : Sea
       ∙ ap (λ x. there (length l.cells.now) (entry_of (work_with b s (read_log w k s) x) s.phase)) is-writes
 
   -- What the seat may do, as the calls define it.
-  ready_is : cond (there (length l.cells.now) (entry_of (work_of w k s b) s.phase)) (Ok (record { seated = s; step = step_now m w k s b; kind = m.KIND })) (Err Lists-refused) ≡ ready_of m w k
+  pub ready_is : cond (there (length l.cells.now) (entry_of (work_of w k s b) s.phase)) (Ok (record { seated = s; step = step_now m w k s b; kind = m.KIND })) (Err Lists-refused) ≡ ready_of m w k
   ready_is = rw (h, at, has, lent) refl
 
   pub ready_no : there (length l.cells.now) (entry_of (work_with (tt {0}) s R W) s.phase) ≡ false → Err Lists-refused ≡ ready_of m w k

@@ -1,11 +1,11 @@
 -- What a write to a long list does to the stretches of it, and the logs by places.
-use Rattle.std.proofs.Common.{◌≡◌, ℕ, suc, ◌+◌, ◌-◌, ◌*◌, ◌<◌, ◌≤◌, Bool, true, false, cond, ◌||◌, eqb, ltb, ◌≢◌, ◌⊎◌, List, [], ◌∷◌, ◌++◌, length, take, drop, set, ℤ, sym, refl, ap, ◌∙◌, subst, inl, inr, mul-le-mul_left, arith, length-append, length-drop, length-take, take-suc-set, drop-set-lt}
+use Rattle.std.proofs.Common.{◌≡◌, ℕ, suc, ◌+◌, ◌-◌, ◌*◌, ◌<◌, ◌≤◌, Bool, true, false, cond, ◌||◌, eqb, ltb, ◌≢◌, ◌⊎◌, List, [], ◌∷◌, ◌++◌, length, get_or, take, drop, set, ℤ, sym, refl, ap, ◌∙◌, subst, inl, inr, mul-le-mul_left, arith, length-append, length-drop, length-take, take-suc-set, drop-set-lt}
 use mathlib.Core.Bool.{false≢true}
 use lib.Dec.{leb-suc-suc}
 use lib.Seq.{take-set-le, take-set-lt, drop-set-add}
 use Rattle.std.proofs.lemmas.Bool.{lt-ltb, ltb-true, cases_lt, cond_both, or_parts}
 use Rattle.lane.specs.declared.written.Written.{Written}
-use Rattle.lane.specs.Logs.{holds, place_by, has, enter, mem, place, itself, cell_of, note}
+use Rattle.lane.specs.Logs.{holds, place_by, has, logged, enter, mem, no_entry, place, itself, cell_of, note}
 use Rattle.lane.specs.Worlds.{stretch}
 
 module _ {X : Type 0} (l : List X) (p : ℕ) where
@@ -60,6 +60,14 @@ enter_old c v (x ∷ W) h = by (λ q. enter_old c v W q) (eqb x.cell c) refl
     by : (has c W ≡ true → enter c v W ≡ set W (place c W) (record { cell = c; amount = v })) → (r : Bool) → eqb x.cell c ≡ r → cond r (record { cell = c; amount = v } ∷ W) (x ∷ enter c v W) ≡ set (x ∷ W) (cond r 0 (suc (place c W))) (record { cell = c; amount = v })
     by ih true e = refl
     by ih false e = ap (λ z. x ∷ z) (ih (rw e at h))
+
+pub logged_place : (c : ℕ) (y : ℤ) (W : List Written) → has c W ≡ true → logged c y W ≡ (get_or W (place c W) no_entry).amount
+logged_place c y [] h = absurd (false≢true h)
+logged_place c y (x ∷ W) h = by (λ q. logged_place c y W q) (eqb x.cell c) refl
+  where
+    by : (has c W ≡ true → logged c y W ≡ (get_or W (place c W) no_entry).amount) → (r : Bool) → eqb x.cell c ≡ r → cond r x.amount (logged c y W) ≡ (get_or (x ∷ W) (cond r 0 (suc (place c W))) no_entry).amount
+    by ih true e = refl
+    by ih false e = ih (rw e at h)
 
 -- An entry that leaves a log no longer than n lies within n
 pub noted_within : (c : ℕ) (R : List ℕ) (n : ℕ) → length R ≤ n → length (note c R) ≤ n → place_by itself c R < n

@@ -1,13 +1,13 @@
 -- Where an entry stands or goes: the place of its cell's entry, or the end of the log.
-use Rattle.std.proofs.Common.{◌≡◌, ℕ, zero, suc, ◌+◌, ◌-◌, ◌≤◌, min, Bool, true, false, cond, not, ◌||◌, eqb, ltb, List, [], ◌∷◌, ◌++◌, length, get_or, take, pos, Some, None, unwrap_or, sym, refl, ap, ◌∙◌, arith, length-take}
+use Rattle.std.proofs.Common.{◌≡◌, ℕ, zero, suc, ◌+◌, ◌-◌, ◌<◌, ◌≤◌, min, Bool, true, false, cond, not, ◌||◌, eqb, ltb, List, [], ◌∷◌, ◌++◌, length, get_or, take, pos, Some, None, unwrap_or, sym, refl, ap, ◌∙◌, subst, arith, length-take}
 use Rattle.std.specs.List.{find, position_or_len}
 use Rattle.std.specs.Option.{option_map}
 use Rattle.std.proofs.lemmas.Bool.{eq-eqb, ne_eqb, ltb-true, ltb-false}
 use Rattle.std.proofs.lemmas.List.{take_min, get_or-append_right}
 use Rattle.std.proofs.lemmas.List.Recursion.{is_position_or_len}
 use Rattle.lane.specs.declared.written.Written.{Written}
-use Rattle.lane.specs.Logs.{holds, has, place_by, cells_of, logged, lookup, no_entry}
-use Rattle.lane.proofs.Stretched.{holds_place, place_few}
+use Rattle.lane.specs.Logs.{holds, has, place_by, cell_of, cells_of, logged, lookup, no_entry}
+use Rattle.lane.proofs.Stretched.{holds_place, place_few, logged_place}
 use Rattle.logs.specs.Entered.{found}
 
 module _ {E : Type 0} (f : E → ℕ) (c : ℕ) (log : List E) where
@@ -54,6 +54,22 @@ amount_of_first c (x ∷ log) = by (eqb x.cell c) (amount_of_first c log)
         → option_map (λ (x : Written). x.amount) (cond b (Some x) (find (λ (x : Written). eqb x.cell c) log)) ≡ cond (b || has c log) (Some (cond b x.amount (logged c (pos 0) log))) None
     by true e = refl
     by false e = e
+
+-- A place that was found.
+pub found_at : {E : Type 0} (f : E → ℕ) (c : ℕ) (log : List E) (i : ℕ) → Some i ≡ found f c log → (i < length log) × (holds f c log ≡ true) × (place_by f c log ≡ i)
+found_at f c log i e = by (holds f c log) refl e
+  where
+    by : (b : Bool) → holds f c log ≡ b → Some i ≡ cond b (Some (place_by f c log)) None → (i < length log) × (holds f c log ≡ true) × (place_by f c log ≡ i)
+    by true h q =
+        let p : place_by f c log ≡ i = cc in
+        (subst (λ z. z < length log) p (ltb-true _ _ (sym (holds_place f c log) ∙ h)), h, p)
+    by false h q = let z : ◌≡◌ {A = ℕ} 0 1 = cc in absurd (omega arith)
+
+-- The amount of the entry that was found.
+pub amount_at : (c : ℕ) (log : List Written) (i : ℕ) → Some i ≡ found cell_of c log → lookup c log ≡ Some (get_or log i no_entry).amount
+amount_at c log i e =
+    let r = found_at cell_of c log i e in
+    rw r.1 (ap Some (logged_place c (pos 0) log r.1 ∙ ap (λ z. (get_or log z no_entry).amount) r.2))
 
 -- The cells of a write log, behind those of a read log.
 cell_in : (W : List Written) (i : ℕ) → get_or (cells_of W) i 0 ≡ (get_or W i no_entry).cell

@@ -9,7 +9,9 @@ use super::entry::Entry;
 pub fn find<E: Entry>(log: &[E], cell: u32) -> Option<usize>
     ensures { result ≡ found E.Entry.cell cell log.now }
 {
-    log.iter().position(|entry| entry.cell_of() == cell)
+    // The place has a name, so that what is answered can be told from how it is found.
+    let at = log.iter().position(|entry| entry.cell_of() == cell)?;
+    Some(at)
 }
 
 // Enters into the log of so many entries at the front of the stretch: in the place of its cell's entry, or behind the last.
