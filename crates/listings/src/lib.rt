@@ -1,12 +1,12 @@
 // Lists an import text: a line for each posting and one for what they come to, or one line that names the fault.
 #![tactic(auto)]
 
-ghost use Rattle.std.specs.Prelude.{◌≡◌, List, IfOk, string_bytes};
+ghost use Rattle.std.specs.Prelude.{◌≡◌, List, ◌++◌, IfOk, OnOk, string_bytes};
 ghost use Rattle.imports.specs.declared.posting.Posting.{Posting};
 ghost use Rattle.imports.specs.Checks.{Tells};
-ghost use Rattle.listings.specs.Listings.{Lists, listed};
+ghost use Rattle.listings.specs.Listings.{Lists, listed, posting_line};
 
-use imports::{Checked, check};
+use imports::{Checked, Posting, check};
 use std::alloc::Global;
 use std::fmt;
 
@@ -25,7 +25,7 @@ fn list(heap: Global, import: &Checked) -> Result<String, fmt::Error>
 {
     let mut out = String::new(heap);
     for posting in import.postings() {
-        write!(out, "{posting}\n")?;
+        list_posting(&mut out, posting)?;
     }
     write!(
         out,
@@ -35,4 +35,12 @@ fn list(heap: Global, import: &Checked) -> Result<String, fmt::Error>
         import.length()
     )?;
     Ok(out)
+}
+
+// The line of a posting.
+fn list_posting(out: &mut String, posting: Posting) -> fmt::Result
+    ensures { OnOk result (string_bytes out.new ≡ string_bytes out.old ++ posting_line posting) }
+{
+    write!(out, "{posting}\n")?;
+    Ok(())
 }

@@ -14,7 +14,7 @@ loop-posting-init c ps told = record {
 
 pub loop-posting-preserved : goal.loop-posting-preserved
 loop-posting-preserved c ps told =
-    subst (Sofar ps c.next.new.self) (sym c.in_ok-write.ensures.bytes)
+    subst (Sofar ps c.next.new.self) (sym c.in_ok-list_posting.ensures)
     (one_more ps c.loop-posting.posting-iterator c.next.new.self _ _ (c.loop-posting.invariant ps told) c.in-Some.ensures.steps)
 
 pub returns : goal.returns
@@ -23,5 +23,5 @@ returns c ps told =
     let count = c.count.ensures.told ps told in
     let reach = c.reach.ensures.told ps told in
     let length = c.length.ensures.told ps told in
-    c.in_ok-write-2.ensures.bytes
+    c.in_ok-write.ensures.bytes
     ∙ (λ i. shown i ++ 76 ∷ 9 ∷ (decimal (count i) ++ 9 ∷ (decimal (reach i) ++ 9 ∷ (decimal (length i) ++ 10 ∷ []))))
